@@ -1,0 +1,6 @@
+pub mod Zeros
+pub mod Padding
+pub mod Marks
+pub mod Fit
+pub mod Opened
+pub mod Waiting

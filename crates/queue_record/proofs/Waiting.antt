@@ -1,0 +1,2 @@
+-- The occupied slots as a list: what a store does to it, and its last
+use Prim.Native.Nat.{ℕ}

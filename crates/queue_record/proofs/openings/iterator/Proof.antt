@@ -1,0 +1,28 @@
+-- Refused with the blank queue, or open with the given bindings
+use Prim.Native.Nat.{ℕ}
+use mathlib.Core.Path.{sym, ap, _∙_}
+use mathlib.Core.List.{List}
+use mathlib.Core.Bool.{false}
+use borrow.Author.Tests.{lt-ltb, le-ltb}
+use Rattle.stage.proofs.Ways.{hit, miss}
+use Rattle.queue_record.specs.Openings.{iteratorOpened, iteratorOf, scopeOf, blank}
+use Rattle.queue_record.specs.Refusals.{tooManyBindings}
+use Rattle.queue_record.specs.declared.openings.Opened.the-variants.{Refused}
+use Rattle.queue_record.specs.declared.openings.OpenAnswer.{OpenAnswer}
+use Rattle.queue_record.specs.declared.record.Queue.{Queue}
+use borrow.Author.Needs.{needs}
+use Rattle.queue_record.proofs.openings.iterator.Statement.{statement}
+use Rattle.queue_record.proofs.openings.iterator.Tie as tie
+
+abbrev as-refused : Queue → OpenAnswer
+as-refused q = record { answer = Refused tooManyBindings; queue = q }
+
+pub iterator-spec : {M : Type 1} → statement M
+unfolding iteratorOpened iteratorOf blank
+iterator-spec =
+    tie.close
+    (tie.spec
+    (λ c κs. search needs)
+    (λ c. ap (λ (q : Queue). as-refused q) (c .scope .ensures) ∙ sym (hit _ (lt-ltb _ _ (c .before .if1 .taken))))
+    (λ c κs. search needs)
+    (λ c. rw ((c .places-of .ensures)) (sym (miss _ (le-ltb _ _ (c .before .if1 .left))))))

@@ -1,0 +1,5 @@
+pub mod Refusals
+pub mod Record
+pub mod WellFormed
+pub mod Waiting
+pub mod Openings

@@ -1,0 +1,72 @@
+-- The phases of a stage: document 01, "Stage phases"
+use Prim.Native.Nat.{ℕ}
+use mathlib.Core.Bool.{Bool, true, false}
+use lib.Dec.{eqb}
+use Rattle.stage.specs.Choice.{if_then_else_}
+use Rattle.stage.specs.declared.phases.Phase.{Phase}
+use Rattle.stage.specs.declared.phases.Phase.the-variants.{Idle, Pending, Ended, Stopping, Closed}
+use Rattle.stage.specs.declared.phases.Event.{Event}
+use Rattle.stage.specs.declared.phases.Event.the-variants.{Admit, Land, End, Cancel}
+
+-- one row of the table: the phase after admit, after land, after end, after cancel
+abbrev pub row : Phase → Phase → Phase → Phase → Event → Phase
+row admit land end cancel Admit = admit
+row admit land end cancel Land = land
+row admit land end cancel End = end
+row admit land end cancel Cancel = cancel
+
+-- the phase after an event: the paper's table, with the phase itself for a dash, "no change"
+abbrev pub next : Phase → Event → Phase
+next Idle = row Pending Idle Idle Closed
+next Pending = row Pending Idle Ended Stopping
+next Ended = row Ended Ended Ended Closed
+next Stopping = row Stopping Closed Closed Stopping
+next Closed = row Closed Closed Closed Closed
+
+-- pending answers yes in Pending and Stopping
+abbrev pub isPending : Phase → Bool
+isPending Idle = false
+isPending Pending = true
+isPending Ended = false
+isPending Stopping = true
+isPending Closed = false
+
+-- settled answers yes in Ended and Closed
+abbrev pub isSettled : Phase → Bool
+isSettled Idle = false
+isSettled Pending = false
+isSettled Ended = true
+isSettled Stopping = false
+isSettled Closed = true
+
+-- cancelled answers yes in Stopping and Closed
+abbrev pub isCancelled : Phase → Bool
+isCancelled Idle = false
+isCancelled Pending = false
+isCancelled Ended = false
+isCancelled Stopping = true
+isCancelled Closed = true
+
+-- the phases as numbers, in the table's order
+abbrev pub phaseNumber : Phase → ℕ
+phaseNumber Idle = 0
+phaseNumber Pending = 1
+phaseNumber Ended = 2
+phaseNumber Stopping = 3
+phaseNumber Closed = 4
+
+-- the events as numbers, in the table's order
+abbrev pub eventNumber : Event → ℕ
+eventNumber Admit = 0
+eventNumber Land = 1
+eventNumber End = 2
+eventNumber Cancel = 3
+
+-- the phase of a number; a number past 4 counts as Closed
+abbrev pub phaseAt : ℕ → Phase
+phaseAt number =
+    if eqb number 0 then Idle else
+    if eqb number 1 then Pending else
+    if eqb number 2 then Ended else
+    if eqb number 3 then Stopping else
+    Closed
