@@ -1,6 +1,6 @@
 -- A way through tests: what a choice, a conjunction or an alternative is once its first test is known
 use Prim.Native.Nat.{ℕ}
-use mathlib.Core.Path.{_≡_, refl, sym, _∙_}
+use mathlib.Core.Path.{_≡_, refl, sym, ap, _∙_}
 use mathlib.Core.Bool.{Bool, true, false, not, _&&_, _||_, or-true}
 use native.Mathlib.Omega.{arith}
 use Rattle.stage.specs.Choice.{if_then_else_}
@@ -27,6 +27,10 @@ other b e = simp e
 pub and-left : (a b : Bool) → (a && b) ≡ true → a ≡ true
 and-left true b h = refl
 and-left false b h = h
+
+-- a negated test, of what a call answered
+pub negated : {a b v : Bool} → a ≡ b → not a ≡ v → not b ≡ v
+negated e h = ap not (sym e) ∙ h
 
 -- two truth values that can't both be
 pub clash : {A : Type 0} {b : Bool} → b ≡ true → b ≡ false → A
