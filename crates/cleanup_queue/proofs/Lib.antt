@@ -1,3 +1,0 @@
-pub mod Last
-pub mod Staged
-pub mod Out

@@ -3,13 +3,13 @@ use Prim.Native.Nat.{ℕ}
 use mathlib.Core.List.{List, [], _∷_}
 use Rattle.queue_record.specs.Refusals.{done}
 use Rattle.queue_record.specs.declared.record.Ticket.{Ticket}
-use Rattle.cleanup_queue.specs.declared.births.Registered.{Registered}
-use Rattle.cleanup_queue.specs.declared.attempts.Popped.{Popped}
-use Rattle.cleanup_queue.specs.declared.attempts.Completed.{Completed}
-use Rattle.cleanup_queue.specs.declared.attempts.Retried.{Retried}
-use Rattle.cleanup_queue.specs.declared.questions.Told.{Told}
-use Rattle.cleanup_queue.specs.declared.questions.DomainTold.{DomainTold}
-use Rattle.cleanup_queue.specs.declared.stages.Cancelled.{Cancelled}
+use Rattle.queue_steps.specs.declared.births.Registered.{Registered}
+use Rattle.queue_steps.specs.declared.attempts.Popped.{Popped}
+use Rattle.queue_steps.specs.declared.attempts.Completed.{Completed}
+use Rattle.queue_steps.specs.declared.attempts.Retried.{Retried}
+use Rattle.queue_questions.specs.declared.questions.Told.{Told}
+use Rattle.queue_questions.specs.declared.questions.DomainTold.{DomainTold}
+use Rattle.queue_stages.specs.declared.stages.Cancelled.{Cancelled}
 
 pub record Said : Type 0 where
   pub number : ℕ

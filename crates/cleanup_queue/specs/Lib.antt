@@ -1,6 +1,1 @@
-pub mod Newest
-pub mod Births
-pub mod Attempts
-pub mod Questions
-pub mod Stages
 pub mod Answers

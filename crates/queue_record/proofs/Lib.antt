@@ -4,3 +4,4 @@ pub mod Marks
 pub mod Fit
 pub mod Opened
 pub mod Waiting
+pub mod Last

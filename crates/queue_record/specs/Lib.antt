@@ -2,4 +2,5 @@ pub mod Refusals
 pub mod Record
 pub mod WellFormed
 pub mod Waiting
+pub mod Newest
 pub mod Openings

@@ -1,8 +1,11 @@
-// The queue record: its parts, the check that answers whether it is well formed, and the openings.
+// The queue record: its parts, the check that answers whether it is well formed, the openings, the search for the newest
+// waiting token, and the record with another selection or phase.
 mod check;
 mod openings;
 mod record;
 pub mod refusal;
+mod search;
+mod setters;
 
 pub use check::well_formed;
 pub use openings::OpenAnswer;
@@ -13,3 +16,7 @@ pub use record::Kind;
 pub use record::Queue;
 pub use record::Selection;
 pub use record::Ticket;
+pub use search::Found;
+pub use search::newest_place;
+pub use setters::move_to;
+pub use setters::select;

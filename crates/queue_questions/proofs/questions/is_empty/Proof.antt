@@ -1,0 +1,19 @@
+-- Refused, or told
+use mathlib.Core.Path.{sym, ap, _∙_}
+use Rattle.stage.proofs.Ways.{hit, miss, negated}
+use Rattle.queue_questions.specs.Questions.{yesOrNo, isEmptyTold}
+use borrow.Author.Needs.{needs}
+use Rattle.queue_questions.proofs.questions.is_empty.Statement.{statement}
+use Rattle.queue_questions.proofs.questions.is_empty.Tie as tie
+
+pub is-empty-spec : {M : Type 1} → statement M
+unfolding isEmptyTold
+is-empty-spec =
+    tie.close
+    (tie.spec
+    (λ c κs. search needs)
+    (λ c. sym (hit _ (negated (c .before .well-formed .ensures) (c .if1 .taken))))
+    (λ c. search needs)
+    (λ c κs. search needs)
+    (λ c κs. search needs)
+    (λ c. (c .say .ensures) ∙ (ap yesOrNo (c .before .nothing-left .ensures) ∙ sym (miss _ (negated (c .before .before .before .before .before .well-formed .ensures) (c .before .before .before .before .if1 .left))))))

@@ -1,0 +1,24 @@
+-- Asked in the order of the definition
+use mathlib.Core.Path.{sym, ap, _∙_}
+use mathlib.Core.Bool.{not}
+use denote.Ref.{now}
+use Rattle.stage.proofs.Ways.{pass, stop}
+use Rattle.queue_questions.specs.Questions.{finishable}
+use Rattle.queue_record.specs.declared.record.Selection.{Selection}
+use borrow.Author.Needs.{needs}
+use Rattle.queue_questions.proofs.questions.may_finish.Statement.{statement}
+use Rattle.queue_questions.proofs.questions.may_finish.Tie as tie
+
+pub may-finish-spec : {M : Type 1} → statement M
+may-finish-spec =
+    tie.close
+    (tie.spec
+    (λ c. search needs)
+    (λ c. search needs)
+    (λ c. search needs)
+    (λ c κs. search needs)
+    (λ c. search needs)
+    (λ c κs. search needs)
+    (λ c. search needs)
+    (λ c κs. search needs)
+    (λ c. (c .same-set .ensures .0) ∙ sym (ap (λ (s : Selection). finishable s ((c .before .before .before .before .before .before .before .before .before .args .phase)) (now (c .before .before .before .before .before .before .before .before .before .args .target)) (now (c .before .before .before .before .before .before .before .before .before .args .committed))) (c .before .before .before .before .before .enum-told .given .1) ∙ (pass _ (ap not (sym (c .before .before .before .before .pending .ensures) ∙ (c .before .before .before .if1 .left))) ∙ pass _ (ap not (sym (c .before .before .cancelled .ensures) ∙ (c .before .if2 .left)))))))

@@ -1,0 +1,13 @@
+-- The newest of some tokens in ascending order: the last one
+use Prim.Native.Nat.{ℕ}
+use mathlib.Core.List.{List, [], _∷_}
+use Rattle.queue_record.specs.declared.search.Found.{Found}
+use Rattle.queue_record.specs.declared.search.Found.the-variants.{At, Missing}
+
+-- the last token, or what was found before where there is none
+abbrev pub lastOr : Found → List ℕ → Found
+lastOr found [] = found
+lastOr found (k ∷ ks) = lastOr (At k) ks
+
+unfoldable pub newest : List ℕ → Found
+newest ks = lastOr Missing ks

@@ -1,0 +1,27 @@
+-- Refused, or admitted by the match
+use Prim.Native.Nat.{_≤_}
+use lib.ListN.{length}
+use lib.Seq.{length-take-le}
+use Rattle.queue_record.proofs.Fit.{fit}
+use mathlib.Core.Path.{_≡_, sym, ap, _∙_}
+use borrow.Author.Tests.{not-false}
+use Rattle.stage.proofs.Ways.{hit, miss, negated}
+use Rattle.queue_stages.specs.Stages.{admittedBy, admitted}
+use borrow.Author.Needs.{needs}
+use native.Mathlib.Omega.{arith}
+use Rattle.queue_stages.proofs.stages.admit.Statement.{statement}
+use Rattle.queue_stages.proofs.stages.admit.Tie as tie
+
+pub admit-spec : {M : Type 1} → statement M
+unfolding admitted
+admit-spec =
+    tie.close
+    (tie.spec
+    (λ c κs. search needs)
+    (λ c κs. search needs)
+    (λ c. (c .stage-refused .ensures) ∙ sym (hit _ (negated (c .before .before .well-formed .ensures) (c .before .if1 .taken))))
+    (λ c. let l : length ((c .before .before .before .before .args .q) .bindings) ≡ 16 = search needs in let b : (c .before .before .before .before .args .q) .bound ≤ 16 = fit (c .before .before .before .before .args .q) (sym (c .before .before .well-formed .ensures) ∙ not-false _ (c .before .if1 .left)) .bound in omega arith)
+    (λ c. let l : length ((c .before .before .before .before .before .args .q) .bindings) ≡ 16 = search needs in let b : (c .before .before .before .before .before .args .q) .bound ≤ 16 = fit (c .before .before .before .before .before .args .q) (sym (c .before .before .before .well-formed .ensures) ∙ not-false _ (c .before .before .if1 .left)) .bound in sym (length-take-le ((c .before .before .before .before .before .args .q) .bound) ((c .before .before .before .before .before .args .q) .bindings) (omega arith)))
+    (λ c κs. search needs)
+    (λ c κs. search needs)
+    (λ c. (c .admit-by .ensures) ∙ (ap (admittedBy (c .before .before .before .before .before .before .before .args .q)) (c .before .same-set .ensures .0) ∙ sym (miss _ (negated (c .before .before .before .before .before .well-formed .ensures) (c .before .before .before .before .if1 .left))))))

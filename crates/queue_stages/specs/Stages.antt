@@ -1,0 +1,47 @@
+-- Admit, end and cancel: document 01, "Stage phases"
+use Prim.Native.Nat.{ℕ}
+use mathlib.Core.Bool.{Bool, not}
+use Rattle.stage.specs.Choice.{if_then_else_}
+use Rattle.stage.specs.Phases.{next, isPending}
+use Rattle.stage.specs.declared.phases.Phase.{Phase}
+use Rattle.stage.specs.declared.phases.Event.the-variants.{Admit, End, Cancel}
+use Rattle.queue_record.specs.Refusals.{broken}
+use Rattle.queue_record.specs.Record.{withPhase}
+use Rattle.queue_record.specs.WellFormed.{wellFormed}
+use Rattle.queue_record.specs.declared.record.Queue.{Queue}
+use Rattle.queue_questions.specs.Questions.{yesOrNo}
+use Rattle.queue_questions.specs.declared.questions.Told.{Told}
+use Rattle.queue_questions.specs.declared.questions.Told.the-variants.{Refused}
+use Rattle.queue_stages.specs.declared.stages.StageAnswer.{StageAnswer}
+use Rattle.queue_stages.specs.declared.stages.Cancelled.{Cancelled}
+use Rattle.queue_stages.specs.declared.stages.CancelAnswer.{CancelAnswer}
+
+-- an answer and the record with it
+abbrev pub staged : Told → Queue → StageAnswer
+staged answer q = record { answer = answer; queue = q }
+
+abbrev pub refusedStage : Queue → StageAnswer
+refusedStage q = staged (Refused broken) q
+
+-- from Idle, admit moves only if a target is given and matches; elsewhere it is a dash in the table
+abbrev pub afterAdmit : Phase → Bool → Phase
+afterAdmit phase matched = if matched then next phase Admit else phase
+
+-- admit answers whether the stage is pending afterwards
+abbrev pub admittedBy : Queue → Bool → StageAnswer
+admittedBy q matched = staged (yesOrNo (isPending (afterAdmit (q .phase) matched))) (withPhase q (afterAdmit (q .phase) matched))
+
+-- matched: a target is given and its set equals the committed set
+unfoldable pub admitted : Queue → Bool → StageAnswer
+admitted q matched = if not (wellFormed q) then refusedStage q else admittedBy q matched
+
+-- end answers whether the stage was pending before
+unfoldable pub ended : Queue → StageAnswer
+ended q =
+    if not (wellFormed q) then refusedStage q else
+    staged (yesOrNo (isPending (q .phase))) (withPhase q (next (q .phase) End))
+
+unfoldable pub cancelledBy : Queue → CancelAnswer
+cancelledBy q =
+    if not (wellFormed q) then record { answer = Cancelled.Refused broken; queue = q } else
+    record { answer = Cancelled.Done; queue = withPhase q (next (q .phase) Cancel) }

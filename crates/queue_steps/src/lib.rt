@@ -1,0 +1,18 @@
+// The steps that carry undo numbers: register, land, pop, complete, retry.
+mod attempts;
+mod births;
+
+pub use attempts::CompleteAnswer;
+pub use attempts::Completed;
+pub use attempts::PopAnswer;
+pub use attempts::Popped;
+pub use attempts::Retried;
+pub use attempts::RetryAnswer;
+pub use attempts::complete;
+pub use attempts::may_retry;
+pub use attempts::pop;
+pub use attempts::retry;
+pub use births::RegisterAnswer;
+pub use births::Registered;
+pub use births::land;
+pub use births::register;
