@@ -1,0 +1,7 @@
+pub mod ByCase
+pub mod Keeps
+pub mod Sizes
+pub mod Waits
+pub mod HandsOut
+pub mod Rises
+pub mod Finish

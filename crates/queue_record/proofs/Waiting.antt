@@ -93,3 +93,16 @@ appended k (x ∷ xs) (suc c) n h l z =
     by-first (λ (l : List ℕ). occupied k (x ∷ set xs c n) ≡ l ++ ((k + suc c) ∷ [])) k x xs
     (λ e. occupied-empty k x (set xs c n) e ∙ rest)
     (λ e. occupied-full k x (set xs c n) e ∙ ap (λ (l : List ℕ). k ∷ l) rest)
+
+-- ---- the same from the first place on
+from-zero : (i : ℕ) → 0 + i ≡ i
+from-zero i = omega arith
+
+pub emptied-slots : (xs : List ℕ) (i : ℕ) → occupied 0 (set xs i 0) ≡ without i (occupied 0 xs)
+emptied-slots xs i = emptied 0 xs i ∙ ap (λ (t : ℕ). without t (occupied 0 xs)) (from-zero i)
+
+pub stored-slots : (xs : List ℕ) (i n : ℕ) → without i (occupied 0 (set xs i n)) ≡ without i (occupied 0 xs)
+stored-slots xs i n = rw from-zero at (stored 0 xs i n)
+
+pub appended-slots : (xs : List ℕ) (c n : ℕ) → restZero c xs ≡ true → c < length xs → (n ≡ 0 → ⊥) → occupied 0 (set xs c n) ≡ occupied 0 xs ++ (c ∷ [])
+appended-slots xs c n h l z = appended 0 xs c n h l z ∙ ap (λ (t : ℕ). occupied 0 xs ++ (t ∷ [])) (from-zero c)

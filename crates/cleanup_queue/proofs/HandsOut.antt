@@ -1,0 +1,107 @@
+-- When pop hands out work, and what: "Pop hands out work exactly when something may be handed out"
+use Prim.Native.Nat.{ℕ, _+_, _<_}
+use mathlib.Core.Path.{_≡_, refl, sym, ap, _∙_}
+use mathlib.Core.Logic.{_⊎_, inl, inr}
+use mathlib.Core.Bool.{Bool, true, false, not, _&&_, _||_}
+use mathlib.Core.List.{List, [], _∷_, _++_}
+use native.Mathlib.Omega.{arith}
+use borrow.Author.Tests.{eqb-true, ne-eqb, lt-ltb, le-ltb, lt-leb, le-leb, leb-true, leb-false, not-true, not-false}
+use lib.Dec.{eqb, leb, ltb}
+use Rattle.stage.specs.Choice.{if_then_else_}
+use Rattle.stage.proofs.Ways.{hit, miss, pass, stop, either, other, if-by, clash}
+use Rattle.queue_record.specs.Refusals.{broken, hollow, noAttempt}
+use Rattle.queue_record.specs.WellFormed.{wellFormed, isSelected}
+use Rattle.queue_record.specs.Waiting.{occupied, without, others, waiting}
+use Rattle.queue_record.specs.Newest.{newest}
+use Rattle.queue_record.specs.declared.search.Found.{Found}
+use Rattle.queue_record.specs.declared.search.Found.the-variants.{At, Missing}
+use Rattle.queue_record.specs.declared.record.Ticket.{Ticket}
+use Rattle.queue_record.specs.declared.record.Selection.{Selection}
+use Rattle.queue_record.specs.declared.record.Selection.the-variants.{Free, Of}
+use Rattle.queue_record.specs.declared.record.Queue.{Queue}
+use Rattle.queue_record.proofs.Fit.{ready-occupied}
+use Rattle.queue_record.proofs.Last.{newest-none, newest-last}
+use Rattle.queue_steps.specs.Attempts.{noMore, slot, refusedPop, nothing, handed, freshTicket, freshAt, poppedBy, popped}
+use Rattle.queue_steps.specs.declared.attempts.Popped.{Popped}
+use Rattle.queue_steps.specs.declared.attempts.Popped.the-variants.{Work, Nothing}
+use Rattle.queue_steps.specs.declared.attempts.PopAnswer.{PopAnswer}
+use Rattle.cleanup_queue.specs.Promises.{isNone, handsOut, mayHandOut, FreshOf, HandedOut}
+use Rattle.cleanup_queue.proofs.ByCase.{all-occupied, chosen-full, Popping, pop-by}
+
+-- ---- exactly when
+module _ (q : Queue) where
+  -- of a queue that goes past pop's first tests
+  abbrev rest : Selection → List ℕ → Bool
+  rest s ks = isSelected s || (not (isNone ks) && ltb (q .next) noMore)
+
+  some-left : (ks : List ℕ) (token : ℕ) → newest ks ≡ At token → not (isNone ks) ≡ true
+  unfolding newest
+  some-left [] token h = let z : _≡_ {A = ℕ} 0 1 = cc in absurd (omega arith)
+  some-left (k ∷ ks) token h = refl
+
+  fresh-hands : q .selection ≡ Free → (f : Found) → newest (waiting q) ≡ f → handsOut (freshAt q f .answer) ≡ (not (isNone (waiting q)) && ltb (q .next) noMore)
+  fresh-hands e Missing n = sym (stop _ (ap (λ (ks : List ℕ). not (isNone ks)) (newest-none (waiting q) n)))
+  fresh-hands e (At token) n =
+      ap (λ (r : PopAnswer). handsOut (r .answer)) (miss _ (ne-eqb (slot q token) 0 (chosen-full q e token n)))
+      ∙ (room (leb noMore (q .next)) refl ∙ sym (pass _ (some-left (waiting q) token n)))
+    where
+      room : (b : Bool) → leb noMore (q .next) ≡ b → handsOut ((if b then refusedPop q noAttempt else handed q (freshTicket q token) (slot q token) (q .next + 1)) .answer) ≡ ltb (q .next) noMore
+      room true h = sym (le-ltb (q .next) noMore (leb-true noMore (q .next) h))
+      room false h = sym (lt-ltb (q .next) noMore (leb-false noMore (q .next) h))
+
+  by-hands : Popping q → (s : Selection) → q .selection ≡ s → handsOut (poppedBy q s .answer) ≡ rest s (waiting q)
+  by-hands p Free e = fresh-hands e (newest (waiting q)) refl
+  by-hands p (Of t) e = ap (λ (r : PopAnswer). handsOut (r .answer)) (miss _ (ne-eqb (slot q (t .token)) 0 (ready-occupied q t (p .sound) e (p .issued) (p .failed))))
+
+  pub pop-exactly : handsOut (popped q .answer) ≡ mayHandOut q
+  unfolding popped mayHandOut
+  pop-exactly = go (wellFormed q) refl (q .issued) refl (q .failed) refl
+    where
+      go : (w : Bool) → wellFormed q ≡ w → (i : Bool) → q .issued ≡ i → (f : Bool) → q .failed ≡ f → handsOut ((if not w then refusedPop q broken else if i then nothing q else if f then nothing q else poppedBy q (q .selection)) .answer) ≡ (w && (not i && (not f && rest (q .selection) (waiting q))))
+      go false e i h f k = refl
+      go true e true h f k = refl
+      go true e false h true k = refl
+      go true e false h false k = by-hands (record { sound = e; issued = h; failed = k }) (q .selection) refl
+
+  -- ---- what
+  work-parts : (a t : Ticket) (m n : ℕ) → Work a m ≡ Work t n → (a ≡ t) × (m ≡ n)
+  work-parts a t m n e = (cc, cc)
+
+  pub pop-hands : (t : Ticket) (number : ℕ) → popped q .answer ≡ Work t number → HandedOut q t number
+  pop-hands =
+      pop-by (λ (r : PopAnswer). (t : Ticket) (number : ℕ) → r .answer ≡ Work t number → HandedOut q t number) q
+      (λ m _ t number e. let z : _≡_ {A = ℕ} 0 1 = cc in absurd (omega arith))
+      (λ t number e. let z : _≡_ {A = ℕ} 0 1 = cc in absurd (omega arith))
+      (λ p e token n full room t number w. fresh e token n full t number (work-parts (freshTicket q token) t (slot q token) number w))
+      (λ p s e full t number w. ready s e full t number (work-parts s t (slot q (s .token)) number w))
+    where
+      fresh : q .selection ≡ Free → (token : ℕ) → newest (waiting q) ≡ At token → (slot q token ≡ 0 → ⊥) → (t : Ticket) (number : ℕ) → (freshTicket q token ≡ t) × (slot q token ≡ number) → HandedOut q t number
+      fresh e token n full t number w =
+          let k : token ≡ t .token = ap (λ (x : Ticket). x .token) (w .0) in
+          let all : waiting q ≡ occupied 0 (q .slots) = all-occupied q e in
+          record {
+            ticket = inr (record {
+              free = e;
+              older = without token (waiting q);
+              newest = (all ∙ (newest-last (q .slots) token (ap newest (sym all) ∙ n) ∙ ap (λ (l : List ℕ). without token l ++ (token ∷ [])) (sym all))) ∙ ap (λ (j : ℕ). without token (waiting q) ++ (j ∷ [])) k;
+              carries = sym (w .0) ∙ ap (freshTicket q) k;
+            });
+            held = sym (w .1) ∙ ap (slot q) k;
+            full = λ z. full (w .1 ∙ z);
+          }
+
+      ready : (s : Ticket) → q .selection ≡ Of s → (slot q (s .token) ≡ 0 → ⊥) → (t : Ticket) (number : ℕ) → (s ≡ t) × (slot q (s .token) ≡ number) → HandedOut q t number
+      ready s e full t number w = record {
+        ticket = inl (e ∙ ap Of (w .0));
+        held = sym (w .1) ∙ ap (λ (x : Ticket). slot q (x .token)) (w .0);
+        full = λ z. full (w .1 ∙ z);
+      }
+
+  -- ---- refusal 9 is never given: a record that would show it is refused with 1
+  pub pop-never-hollow : popped q .answer ≡ Popped.Refused hollow → ⊥
+  pop-never-hollow =
+      pop-by (λ (r : PopAnswer). r .answer ≡ Popped.Refused hollow → ⊥) q
+      (λ n other e. other cc)
+      (λ e. let z : _≡_ {A = ℕ} 0 1 = cc in omega arith)
+      (λ p e token n full room h. let z : _≡_ {A = ℕ} 0 1 = cc in omega arith)
+      (λ p t e full h. let z : _≡_ {A = ℕ} 0 1 = cc in omega arith)

@@ -1,0 +1,209 @@
+-- Every call keeps a well-formed record well formed
+use Prim.Native.Nat.{ℕ, _+_, _<_}
+use mathlib.Core.Path.{_≡_, refl, sym, ap, _∙_}
+use mathlib.Core.Bool.{Bool, true, false, not, _&&_}
+use mathlib.Core.List.{List}
+use native.Mathlib.Omega.{arith}
+use borrow.Author.Tests.{eq-eqb, ltb-true, ltb-false}
+use lib.Dec.{eqb, ltb}
+use lib.ListN.{length, getD, drop, set, List·getD-eq-default}
+use lib.Seq.{getD-set-same, getD-set-other, drop-set-lt, set-out}
+use Rattle.stage.specs.Phases.{next, isSettled}
+use Rattle.stage.specs.declared.phases.Phase.{Phase}
+use Rattle.stage.specs.declared.phases.Phase.the-variants.{Idle, Pending, Ended, Stopping, Closed}
+use Rattle.stage.specs.declared.phases.Event.{Event}
+use Rattle.stage.specs.declared.phases.Event.the-variants.{Admit, Land, End, Cancel}
+use Rattle.stage.proofs.Ways.{if-by, pass, and-left, and-right, clash}
+use Rattle.queue_record.specs.Record.{withSelection, withFailed, withPhase}
+use Rattle.queue_record.specs.WellFormed.{allZero, restZero, isSelected, ticketFits, marksFit, slotFits, selectedFits, scopeFits, wellFormed}
+use Rattle.queue_record.specs.declared.record.Kind.{Kind}
+use Rattle.queue_record.specs.declared.record.Kind.the-variants.{Scope, Iterator}
+use Rattle.queue_record.specs.declared.record.Ticket.{Ticket}
+use Rattle.queue_record.specs.declared.record.Selection.{Selection}
+use Rattle.queue_record.specs.declared.record.Selection.the-variants.{Free, Of}
+use Rattle.queue_record.specs.declared.record.Queue.{Queue}
+use Rattle.queue_record.proofs.Zeros.{full-below, rest-more}
+use Rattle.queue_record.proofs.Fit.{Fit, fit, fits, ticket-born, ticket-domain, ticket-before, ticket-fits, selected-domain, selected-born, selected-before, failed-not-issued, issued-not-failed}
+use Rattle.queue_steps.specs.Births.{grown, registered, landed}
+use Rattle.queue_steps.specs.Attempts.{noMore, slot, issuedTo, freshTicket, popped, tookBack, answered, completed, mayRetry, retryAllowed, renewed, again, retried}
+use Rattle.queue_steps.specs.declared.births.RegisterAnswer.{RegisterAnswer}
+use Rattle.queue_steps.specs.declared.attempts.PopAnswer.{PopAnswer}
+use Rattle.queue_steps.specs.declared.attempts.CompleteAnswer.{CompleteAnswer}
+use Rattle.queue_steps.specs.declared.attempts.RetryAnswer.{RetryAnswer}
+use Rattle.queue_stages.specs.Stages.{afterAdmit, admitted, ended, cancelledBy}
+use Rattle.queue_stages.specs.declared.stages.StageAnswer.{StageAnswer}
+use Rattle.queue_stages.specs.declared.stages.CancelAnswer.{CancelAnswer}
+use Rattle.cleanup_queue.proofs.ByCase.{register-by, land-by, Popping, pop-by, Outside, complete-by, retry-by}
+
+-- ---- slots
+-- a store below the count leaves the places past it
+rest-kept : (q : Queue) (k n : ℕ) → Fit q → k < q .count → restZero (q .count) (set (q .slots) k n) ≡ true
+rest-kept q k n f h = ap allZero (drop-set-lt (q .count) (q .slots) k n h) ∙ f .slots
+
+-- an emptied slot is empty
+emptied-slot : (l : List ℕ) (i : ℕ) → getD (set l i 0) i 0 ≡ 0
+emptied-slot l i = go (ltb i (length l)) refl
+  where
+    go : (b : Bool) → ltb i (length l) ≡ b → getD (set l i 0) i 0 ≡ 0
+    go true e = getD-set-same l i 0 0 (ltb-true _ _ e)
+    go false e = ap (λ (m : List ℕ). getD m i 0) (set-out l i 0 (ltb-false i (length l) e)) ∙ List·getD-eq-default l 0 (ltb-false i (length l) e)
+
+-- ---- register
+module _ (q : Queue) (n : ℕ) where
+  born-ticket : (s : Selection) → ticketFits (q .domain) (q .count) (q .next) s ≡ true → ticketFits (q .domain) (q .count + 1) (q .next) s ≡ true
+  born-ticket Free h = h
+  born-ticket (Of t) h =
+      let b : t .token < q .count = ticket-born (q .domain) (q .count) (q .next) t h in
+      ticket-fits (q .domain) (q .count + 1) (q .next) t (ticket-domain (q .domain) (q .count) (q .next) t h) (omega arith) (ticket-before (q .domain) (q .count) (q .next) t h)
+
+  born-selected : (s : Selection) → ticketFits (q .domain) (q .count) (q .next) s ≡ true → selectedFits (q .failed) (q .issued) (q .slots) s ≡ true → selectedFits (q .failed) (q .issued) (set (q .slots) (q .count) n) s ≡ true
+  born-selected Free h k = k
+  born-selected (Of t) h k =
+      let b : t .token < q .count = ticket-born (q .domain) (q .count) (q .next) t h in
+      ap (slotFits (q .failed) (q .issued)) (getD-set-other (q .slots) (q .count) (t .token) n 0 (λ e. omega arith)) ∙ k
+
+  grown-fit : wellFormed q ≡ true → q .count < 64 → Fit (grown q n)
+  grown-fit h k =
+      let f : Fit q = fit q h in
+      record {
+        count = omega arith;
+        bound = f .bound;
+        slots = ap allZero (drop-set-lt (q .count + 1) (q .slots) (q .count) n (omega arith)) ∙ rest-more (q .count) (q .slots) (f .slots);
+        bindings = f .bindings;
+        scope = f .scope;
+        ticket = born-ticket (q .selection) (f .ticket);
+        marks = f .marks;
+        selected = born-selected (q .selection) (f .ticket) (f .selected);
+      }
+
+  pub register-keeps : wellFormed q ≡ true → wellFormed (registered q n .queue) ≡ true
+  register-keeps h = register-by (λ (r : RegisterAnswer). wellFormed (r .queue) ≡ true) q n (λ _. h) (λ w z k. fits (grown q n) (grown-fit w k))
+
+-- ---- the stage
+-- a settled stage stays settled, so a scope's phase stays Ended or Closed
+stays-settled : (p : Phase) (e : Event) → isSettled p ≡ true → isSettled (next p e) ≡ true
+stays-settled Ended Admit h = refl
+stays-settled Ended Land h = refl
+stays-settled Ended End h = refl
+stays-settled Ended Cancel h = refl
+stays-settled Closed Admit h = refl
+stays-settled Closed Land h = refl
+stays-settled Closed End h = refl
+stays-settled Closed Cancel h = refl
+stays-settled Idle e h = clash h refl
+stays-settled Pending e h = clash h refl
+stays-settled Stopping e h = clash h refl
+
+scope-moves : (k : Kind) (b : ℕ) (p : Phase) (e : Event) → scopeFits k b p ≡ true → scopeFits k b (next p e) ≡ true
+scope-moves Iterator b p e h = refl
+scope-moves Scope b p e h = pass _ (and-left (eqb b 0) (isSettled p) h) ∙ stays-settled p e (and-right (eqb b 0) (isSettled p) h)
+
+phase-fits : (q : Queue) (p : Phase) → Fit q → scopeFits (q .kind) (q .bound) p ≡ true → wellFormed (withPhase q p) ≡ true
+phase-fits q p f s = fits (withPhase q p) (record { count = f .count; bound = f .bound; slots = f .slots; bindings = f .bindings; scope = s; ticket = f .ticket; marks = f .marks; selected = f .selected })
+
+moved-fits : (q : Queue) (e : Event) → wellFormed q ≡ true → wellFormed (withPhase q (next (q .phase) e)) ≡ true
+moved-fits q e h = phase-fits q (next (q .phase) e) (fit q h) (scope-moves (q .kind) (q .bound) (q .phase) e (fit q h .scope))
+
+pub land-keeps : (q : Queue) (n : ℕ) → wellFormed q ≡ true → wellFormed (landed q n .queue) ≡ true
+land-keeps q n h = land-by (λ (r : RegisterAnswer). wellFormed (r .queue) ≡ true) q n (λ _. h) (λ w z p k. moved-fits (grown q n) Land (fits (grown q n) (grown-fit q n w k)))
+
+pub admit-keeps : (q : Queue) (matched : Bool) → wellFormed q ≡ true → wellFormed (admitted q matched .queue) ≡ true
+unfolding admitted
+admit-keeps q matched h =
+    if-by (λ (r : StageAnswer). wellFormed (r .queue) ≡ true) (not (wellFormed q)) _ _ (λ _. h)
+    (λ _. if-by (λ (p : Phase). wellFormed (withPhase q p) ≡ true) matched _ _ (λ _. moved-fits q Admit h) (λ _. h))
+
+pub end-keeps : (q : Queue) → wellFormed q ≡ true → wellFormed (ended q .queue) ≡ true
+unfolding ended
+end-keeps q h = if-by (λ (r : StageAnswer). wellFormed (r .queue) ≡ true) (not (wellFormed q)) _ _ (λ _. h) (λ _. moved-fits q End h)
+
+pub cancel-keeps : (q : Queue) → wellFormed q ≡ true → wellFormed (cancelledBy q .queue) ≡ true
+unfolding cancelledBy
+cancel-keeps q h = if-by (λ (r : CancelAnswer). wellFormed (r .queue) ≡ true) (not (wellFormed q)) _ _ (λ _. h) (λ _. moved-fits q Cancel h)
+
+-- ---- pop
+module _ (q : Queue) where
+  issued-fits : (t : Ticket) (next : ℕ) → Popping q → t .domain ≡ q .domain → t .token < q .count → t .attempt < next → wellFormed (issuedTo q t next) ≡ true
+  issued-fits t next p d k a =
+      let f : Fit q = fit q (p .sound) in
+      fits (issuedTo q t next) (record {
+        count = f .count;
+        bound = f .bound;
+        slots = rest-kept q (t .token) 0 f k;
+        bindings = f .bindings;
+        scope = f .scope;
+        ticket = ticket-fits (q .domain) (q .count) next t d k a;
+        marks = ap (λ (b : Bool). marksFit true b true) (p .failed);
+        selected = ap (λ (n : ℕ). slotFits (q .failed) true n) (emptied-slot (q .slots) (t .token)) ∙ ap (λ (b : Bool). slotFits b true 0) (p .failed);
+      })
+
+  pub pop-keeps : wellFormed q ≡ true → wellFormed (popped q .queue) ≡ true
+  pop-keeps h =
+      pop-by (λ (r : PopAnswer). wellFormed (r .queue) ≡ true) q (λ _ _. h) h
+      (λ p e token n full room. issued-fits (freshTicket q token) (q .next + 1) p refl (full-below (q .count) (q .slots) token (fit q h .slots) full) (omega arith))
+      (λ p t e full. issued-fits t (q .next) p (selected-domain q t h e) (selected-born q t h e) (selected-before q t h e))
+
+-- ---- complete
+module _ (q : Queue) (t : Ticket) (o : Outside q t) where
+  abbrev f : Fit q
+  f = fit q (o .sound)
+
+  token-born : t .token < q .count
+  token-born = selected-born q t (o .sound) (o .selected)
+
+  done-fits : (kept : ℕ) → wellFormed (withSelection (tookBack q (t .token) kept) Free) ≡ true
+  done-fits kept = fits (withSelection (tookBack q (t .token) kept) Free) (record {
+    count = f .count;
+    bound = f .bound;
+    slots = rest-kept q (t .token) kept f token-born;
+    bindings = f .bindings;
+    scope = f .scope;
+    ticket = refl;
+    marks = ap (λ (b : Bool). marksFit false b false) (issued-not-failed q (o .sound) (o .issued));
+    selected = refl;
+  })
+
+  failed-fits : (kept : ℕ) → wellFormed (withFailed (tookBack q (t .token) kept) true) ≡ true
+  failed-fits kept = fits (withFailed (tookBack q (t .token) kept) true) (record {
+    count = f .count;
+    bound = f .bound;
+    slots = rest-kept q (t .token) kept f token-born;
+    bindings = f .bindings;
+    scope = f .scope;
+    ticket = f .ticket;
+    marks = ap (λ (s : Selection). marksFit (isSelected s) true false) (o .selected);
+    selected = ap (selectedFits true false (set (q .slots) (t .token) kept)) (o .selected);
+  })
+
+pub complete-keeps : (q : Queue) (t : Ticket) (outcome kept : ℕ) → wellFormed q ≡ true → wellFormed (completed q t outcome kept .queue) ≡ true
+complete-keeps q t outcome kept h =
+    complete-by (λ (r : CompleteAnswer). wellFormed (r .queue) ≡ true) q t outcome kept (λ _. h)
+    (λ o _ _. if-by (λ (p : Queue). wellFormed p ≡ true) (eqb outcome 0) _ _ (λ _. done-fits q t o kept) (λ _. failed-fits q t o kept))
+
+-- ---- retry
+module _ (q : Queue) (h : wellFormed q ≡ true) (t : Ticket) (e : q .selection ≡ Of t) (a : retryAllowed q (Of t) ≡ true) where
+  was-failed : q .failed ≡ true
+  was-failed = and-left (q .failed) _ a
+
+  still-full : not (eqb (slot q (t .token)) 0) ≡ true
+  still-full = and-left (not (eqb (slot q (t .token)) 0)) (ltb (q .next) noMore) (and-right (q .failed) _ a)
+
+  not-out : q .issued ≡ false
+  not-out = failed-not-issued q h was-failed
+
+  again-fits : wellFormed (again q t .queue) ≡ true
+  again-fits =
+      let f : Fit q = fit q h in
+      fits (again q t .queue) (record {
+        count = f .count;
+        bound = f .bound;
+        slots = f .slots;
+        bindings = f .bindings;
+        scope = f .scope;
+        ticket = ticket-fits (q .domain) (q .count) (q .next + 1) (renewed q t) (selected-domain q t h e) (selected-born q t h e) (omega arith);
+        marks = ap (λ (b : Bool). marksFit true false b) not-out;
+        selected = ap (λ (b : Bool). slotFits false b (slot q (t .token))) not-out ∙ still-full;
+      })
+
+pub retry-keeps : (q : Queue) → wellFormed q ≡ true → wellFormed (retried q .queue) ≡ true
+retry-keeps q h = retry-by (λ (r : RetryAnswer). wellFormed (r .queue) ≡ true) q (λ _. h) (λ w t e a. again-fits q h t e a)

@@ -1,0 +1,2 @@
+-- todo
+use Prim.Native.Nat.{ℕ}

@@ -1,0 +1,2 @@
+-- Marked
+use Prim.Native.Nat.{ℕ}
