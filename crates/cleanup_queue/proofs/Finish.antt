@@ -1,2 +1,105 @@
--- todo
-use Prim.Native.Nat.{ℕ}
+-- When can_finish says yes, what a failed and emptied slot blocks, and late replies
+use Prim.Native.Nat.{ℕ, _<_, _≤_}
+use mathlib.Core.Path.{_≡_, refl, sym, ap, _∙_}
+use mathlib.Core.Bool.{Bool, true, false, not, _&&_}
+use mathlib.Core.List.{List, [], _∷_}
+use native.Mathlib.Omega.{arith}
+use borrow.Author.Tests.{ne-eqb, le-ltb, not-true}
+use lib.Dec.{eqb, ltb}
+use Rattle.stage.specs.Choice.{if_then_else_}
+use Rattle.stage.specs.Bindings.{sameSet, SameMembers}
+use Rattle.stage.specs.Phases.{isPending, isCancelled}
+use Rattle.stage.proofs.Ways.{hit, miss, pass, stop, and-left, and-right, clash}
+use Rattle.stage.proofs.Sets.{same-means, means-same}
+use Rattle.queue_record.specs.Refusals.{notOut, noRetry}
+use Rattle.queue_record.specs.WellFormed.{wellFormed}
+use Rattle.queue_record.specs.Openings.{scopeOf}
+use Rattle.queue_record.specs.Waiting.{waiting}
+use Rattle.queue_record.specs.declared.record.Ticket.{Ticket}
+use Rattle.queue_record.specs.declared.record.Selection.{Selection}
+use Rattle.queue_record.specs.declared.record.Selection.the-variants.{Free, Of}
+use Rattle.queue_record.specs.declared.record.Queue.{Queue}
+use Rattle.queue_record.proofs.Fit.{failed-not-issued}
+use Rattle.queue_steps.specs.Attempts.{slot, nothing, popped, sameTicket, selects, isOut, refusedComplete, completed, mayRetry, retryAllowed, refusedRetry, retriedBy, retried}
+use Rattle.queue_questions.specs.Questions.{yesOrNo, asked, committed, finishable, canFinishTold, nothingLeft, isEmptyTold}
+use Rattle.queue_questions.specs.declared.questions.Told.{Told}
+use Rattle.queue_questions.specs.declared.questions.Told.the-variants.{Yes, No, Refused}
+use Rattle.cleanup_queue.specs.Promises.{Finishable}
+
+-- ---- a question answered yes
+asked-yes : (q : Queue) (b : Bool) → asked q b ≡ Yes → (wellFormed q ≡ true) × (b ≡ true)
+asked-yes q b h = go (wellFormed q) refl b refl h
+  where
+    go : (w : Bool) → wellFormed q ≡ w → (c : Bool) → b ≡ c → (if not w then Refused 1 else yesOrNo c) ≡ Yes → (wellFormed q ≡ true) × (b ≡ true)
+    go true e true f h = (e, f)
+    go true e false f h = let z : _≡_ {A = ℕ} 0 1 = cc in absurd (omega arith)
+    go false e c f h = let z : _≡_ {A = ℕ} 0 1 = cc in absurd (omega arith)
+
+yes-asked : (q : Queue) (b : Bool) → wellFormed q ≡ true → asked q b ≡ yesOrNo b
+yes-asked q b h = miss _ (ap not h)
+
+-- ---- can_finish
+module _ (q : Queue) (target : List ℕ) where
+  pub finish-means : canFinishTold q target ≡ Yes → Finishable q target
+  unfolding canFinishTold
+  finish-means h = go (q .selection) refl (asked-yes q (finishable (q .selection) (q .phase) target (committed q)) h .1)
+    where
+      go : (s : Selection) → q .selection ≡ s → finishable s (q .phase) target (committed q) ≡ true → Finishable q target
+      go (Of t) e f = clash f refl
+      go Free e f =
+          let r : (not (isCancelled (q .phase)) && sameSet target (committed q)) ≡ true = and-right (not (isPending (q .phase))) _ f in
+          record {
+            sound = asked-yes q (finishable (q .selection) (q .phase) target (committed q)) h .0;
+            free = e;
+            landed = not-true _ (and-left (not (isPending (q .phase))) _ f);
+            live = not-true _ (and-left (not (isCancelled (q .phase))) _ r);
+            same = same-means target (committed q) (and-right (not (isCancelled (q .phase))) _ r);
+          }
+
+  pub means-finish : Finishable q target → canFinishTold q target ≡ Yes
+  unfolding canFinishTold
+  means-finish f =
+      yes-asked q (finishable (q .selection) (q .phase) target (committed q)) (f .sound)
+      ∙ ap yesOrNo (ap (λ (s : Selection). finishable s (q .phase) target (committed q)) (f .free) ∙ (pass _ (ap not (f .landed)) ∙ (pass _ (ap not (f .live)) ∙ means-same target (committed q) (f .same))))
+
+-- there is a record for which it says yes
+pub finish-happens : canFinishTold (scopeOf 0 0) [] ≡ Yes
+unfolding canFinishTold scopeOf wellFormed sameSet
+finish-happens = refl
+
+-- ---- a failed, emptied slot blocks
+module _ (q : Queue) (t : Ticket) (h : wellFormed q ≡ true) (e : q .selection ≡ Of t) (f : q .failed ≡ true) where
+  -- nothing is handed out while one has failed, whatever its slot holds
+  pub failed-blocks : popped q ≡ nothing q
+  unfolding popped
+  failed-blocks = miss _ (ap not h) ∙ (miss _ (failed-not-issued q h f) ∙ hit _ f)
+
+  pub failed-not-finished : (target : List ℕ) → canFinishTold q target ≡ No
+  unfolding canFinishTold
+  failed-not-finished target = yes-asked q (finishable (q .selection) (q .phase) target (committed q)) h ∙ ap (λ (s : Selection). yesOrNo (finishable s (q .phase) target (committed q))) e
+
+  pub failed-not-empty : isEmptyTold q ≡ No
+  unfolding isEmptyTold
+  failed-not-empty = yes-asked q (nothingLeft (q .selection) (waiting q)) h ∙ ap (λ (s : Selection). yesOrNo (nothingLeft s (waiting q))) e
+
+  -- and once it is emptied, no retry either
+  pub emptied-no-retry : slot q (t .token) ≡ 0 → retried q ≡ refusedRetry q noRetry
+  unfolding retried
+  emptied-no-retry z = miss _ (ap not h) ∙ (ap (retriedBy q) e ∙ hit _ (ap not (pass _ f ∙ stop _ (ap (λ (n : ℕ). not (eqb n 0)) z))))
+
+-- ---- a reply to an earlier attempt
+pub late-reply : (q : Queue) (s t : Ticket) (outcome kept : ℕ) → wellFormed q ≡ true → q .selection ≡ Of s → t .attempt < s .attempt → outcome ≤ 1 → completed q t outcome kept ≡ refusedComplete q notOut kept
+unfolding completed
+late-reply q s t outcome kept h e l o = miss _ (ap not h) ∙ (miss _ (le-ltb 1 outcome o) ∙ hit _ (ap not (apart (q .issued))))
+  where
+    differ : sameTicket s t ≡ false
+    differ = go (eqb (s .domain) (t .domain)) (eqb (s .token) (t .token))
+      where
+        go : (a b : Bool) → (a && (b && eqb (s .attempt) (t .attempt))) ≡ false
+        go false b = refl
+        go true false = refl
+        go true true = ne-eqb (s .attempt) (t .attempt) (λ p. omega arith)
+
+    apart : (i : Bool) → isOut i (q .selection) t ≡ false
+    apart false = refl
+    apart true = ap (λ (x : Selection). selects x t) e ∙ differ

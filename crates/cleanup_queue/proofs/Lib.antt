@@ -5,3 +5,4 @@ pub mod Waits
 pub mod HandsOut
 pub mod Rises
 pub mod Finish
+pub mod Cases
