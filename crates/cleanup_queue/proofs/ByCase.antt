@@ -1,15 +1,15 @@
 -- Each call by its cases: refused with the record as it was, or done under what its tests showed
 use Prim.Native.Nat.{ℕ, _+_, _<_, _≤_}
 use mathlib.Core.Path.{_≡_, refl, sym, ap, _∙_}
-use mathlib.Core.Bool.{Bool, true, false, not}
+use mathlib.Core.Bool.{true, false, not}
 use native.Mathlib.Omega.{arith}
-use borrow.Author.Tests.{eqb-true, eqb-false, leb-true, leb-false, ltb-true, ltb-false, not-true, not-false}
+use borrow.Author.Tests.{eqb-true, eqb-false, leb-false, ltb-false, not-false}
 use lib.Dec.{eqb, leb, ltb}
 use Rattle.stage.proofs.Ways.{if-by}
 use Rattle.stage.specs.Phases.{next, isPending}
-use Rattle.stage.specs.declared.phases.Event.the-variants.{Land, Admit, End, Cancel}
+use Rattle.stage.specs.declared.phases.Event.the-variants.{Land}
 use Rattle.queue_record.specs.Refusals.{broken, badNumber, noSlot, notPending, noAttempt, notOut, keptOnDone, noRetry, hollow, badOutcome}
-use Rattle.queue_record.specs.Record.{withPhase, withSelection, withFailed}
+use Rattle.queue_record.specs.Record.{withPhase}
 use Rattle.queue_record.specs.WellFormed.{wellFormed}
 use Rattle.queue_record.specs.Waiting.{occupied, others, waiting}
 use Rattle.queue_record.proofs.Fit.{ready-occupied}
@@ -22,7 +22,7 @@ use Rattle.queue_record.specs.declared.record.Selection.{Selection}
 use Rattle.queue_record.specs.declared.record.Selection.the-variants.{Free, Of}
 use Rattle.queue_record.specs.declared.record.Queue.{Queue}
 use Rattle.queue_steps.specs.Births.{refusedBirth, grown, born, registered, landed}
-use Rattle.queue_steps.specs.Attempts.{noMore, slot, refusedPop, nothing, handed, freshTicket, freshAt, poppedBy, popped, refusedComplete, isOut, keepsOnDone, tookBack, answered, completed, refusedRetry, retryAllowed, again, retriedBy, retried}
+use Rattle.queue_steps.specs.Attempts.{noMore, slot, refusedPop, nothing, handed, freshTicket, freshAt, poppedBy, popped, refusedComplete, isOut, keepsOnDone, answered, completed, refusedRetry, retryAllowed, again, retriedBy, retried}
 use Rattle.queue_steps.specs.declared.births.RegisterAnswer.{RegisterAnswer}
 use Rattle.queue_steps.specs.declared.attempts.PopAnswer.{PopAnswer}
 use Rattle.queue_steps.specs.declared.attempts.Completed.{Completed}

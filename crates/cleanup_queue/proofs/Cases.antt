@@ -1,30 +1,29 @@
 -- The marked cases, computed: every row of the table agrees
-use Prim.Native.Nat.{ℕ, zero, suc, _+_, _-_, _<_, _≤_}
-use mathlib.Core.Path.{_≡_, refl, sym, ap, _∙_}
+use Prim.Native.Nat.{ℕ, zero, suc, _+_, _<_, _≤_}
+use mathlib.Core.Path.{_≡_, refl, ap, _∙_}
 use mathlib.Core.Bool.{Bool, true, false, not}
-use mathlib.Core.List.{List, [], _∷_, _++_}
+use mathlib.Core.List.{List, [], _∷_}
 use native.Mathlib.Omega.{arith}
 use native.Mathlib.Numerals.{add-one}
 use borrow.Author.Tests.{lt-leb, le-leb}
-use lib.ListN.{length, replicate}
+use lib.ListN.{replicate}
 use Rattle.stage.specs.Bindings.{sameSet}
 use Rattle.stage.specs.declared.phases.Phase.the-variants.{Ended}
 use Rattle.stage.proofs.Ways.{hit, miss}
 use Rattle.queue_record.specs.WellFormed.{wellFormed}
 use Rattle.queue_record.specs.Newest.{newest}
 use Rattle.queue_record.specs.Openings.{scopeOf, iteratorOf}
-use Rattle.queue_record.specs.Refusals.{noSlot}
 use Rattle.queue_record.specs.declared.record.Kind.the-variants.{Scope}
 use Rattle.queue_record.specs.declared.record.Ticket.{Ticket}
 use Rattle.queue_record.specs.declared.record.Selection.{Selection}
 use Rattle.queue_record.specs.declared.record.Selection.the-variants.{Free, Of}
 use Rattle.queue_record.specs.declared.record.Queue.{Queue}
 use Rattle.queue_record.proofs.Opened.{scope-well-formed}
-use Rattle.queue_steps.specs.Births.{refusedBirth, born, grown, registered, landed}
+use Rattle.queue_steps.specs.Births.{born, grown, registered, landed}
 use Rattle.queue_steps.specs.Attempts.{popped, completed, retried}
 use Rattle.queue_steps.specs.declared.births.RegisterAnswer.{RegisterAnswer}
 use Rattle.queue_stages.specs.Stages.{admitted}
-use Rattle.cleanup_queue.specs.Answers.{Said, says, registeredSays, poppedSays, completedSays, retriedSays, toldSays}
+use Rattle.cleanup_queue.specs.Answers.{Said, says, registeredSays, poppedSays, completedSays, retriedSays}
 use Rattle.cleanup_queue.specs.Marked.{fresh, two, out, failed, outAgain, last, lastOut, spent, registers, table, defined, written}
 use Rattle.cleanup_queue.proofs.Keeps.{register-keeps}
 

@@ -1,13 +1,13 @@
 -- When can_finish says yes, what a failed and emptied slot blocks, and late replies
 use Prim.Native.Nat.{ℕ, _<_, _≤_}
-use mathlib.Core.Path.{_≡_, refl, sym, ap, _∙_}
+use mathlib.Core.Path.{_≡_, refl, ap, _∙_}
 use mathlib.Core.Bool.{Bool, true, false, not, _&&_}
-use mathlib.Core.List.{List, [], _∷_}
+use mathlib.Core.List.{List, []}
 use native.Mathlib.Omega.{arith}
 use borrow.Author.Tests.{ne-eqb, le-ltb, not-true}
-use lib.Dec.{eqb, ltb}
+use lib.Dec.{eqb}
 use Rattle.stage.specs.Choice.{if_then_else_}
-use Rattle.stage.specs.Bindings.{sameSet, SameMembers}
+use Rattle.stage.specs.Bindings.{sameSet}
 use Rattle.stage.specs.Phases.{isPending, isCancelled}
 use Rattle.stage.proofs.Ways.{hit, miss, pass, stop, and-left, and-right, clash}
 use Rattle.stage.proofs.Sets.{same-means, means-same}
@@ -20,9 +20,8 @@ use Rattle.queue_record.specs.declared.record.Selection.{Selection}
 use Rattle.queue_record.specs.declared.record.Selection.the-variants.{Free, Of}
 use Rattle.queue_record.specs.declared.record.Queue.{Queue}
 use Rattle.queue_record.proofs.Fit.{failed-not-issued}
-use Rattle.queue_steps.specs.Attempts.{slot, nothing, popped, sameTicket, selects, isOut, refusedComplete, completed, mayRetry, retryAllowed, refusedRetry, retriedBy, retried}
+use Rattle.queue_steps.specs.Attempts.{slot, nothing, popped, sameTicket, selects, isOut, refusedComplete, completed, refusedRetry, retriedBy, retried}
 use Rattle.queue_questions.specs.Questions.{yesOrNo, asked, committed, finishable, canFinishTold, nothingLeft, isEmptyTold}
-use Rattle.queue_questions.specs.declared.questions.Told.{Told}
 use Rattle.queue_questions.specs.declared.questions.Told.the-variants.{Yes, No, Refused}
 use Rattle.cleanup_queue.specs.Promises.{Finishable}
 

@@ -1,17 +1,17 @@
 -- When pop hands out work, and what: "Pop hands out work exactly when something may be handed out"
-use Prim.Native.Nat.{ℕ, _+_, _<_}
+use Prim.Native.Nat.{ℕ, _+_}
 use mathlib.Core.Path.{_≡_, refl, sym, ap, _∙_}
-use mathlib.Core.Logic.{_⊎_, inl, inr}
+use mathlib.Core.Logic.{inl, inr}
 use mathlib.Core.Bool.{Bool, true, false, not, _&&_, _||_}
 use mathlib.Core.List.{List, [], _∷_, _++_}
 use native.Mathlib.Omega.{arith}
-use borrow.Author.Tests.{eqb-true, ne-eqb, lt-ltb, le-ltb, lt-leb, le-leb, leb-true, leb-false, not-true, not-false}
-use lib.Dec.{eqb, leb, ltb}
+use borrow.Author.Tests.{ne-eqb, lt-ltb, le-ltb, leb-true, leb-false}
+use lib.Dec.{leb, ltb}
 use Rattle.stage.specs.Choice.{if_then_else_}
-use Rattle.stage.proofs.Ways.{hit, miss, pass, stop, either, other, if-by, clash}
+use Rattle.stage.proofs.Ways.{miss, pass, stop, other}
 use Rattle.queue_record.specs.Refusals.{broken, hollow, noAttempt}
 use Rattle.queue_record.specs.WellFormed.{wellFormed, isSelected}
-use Rattle.queue_record.specs.Waiting.{occupied, without, others, waiting}
+use Rattle.queue_record.specs.Waiting.{occupied, without, waiting}
 use Rattle.queue_record.specs.Newest.{newest}
 use Rattle.queue_record.specs.declared.search.Found.{Found}
 use Rattle.queue_record.specs.declared.search.Found.the-variants.{At, Missing}
@@ -23,9 +23,9 @@ use Rattle.queue_record.proofs.Fit.{ready-occupied}
 use Rattle.queue_record.proofs.Last.{newest-none, newest-last}
 use Rattle.queue_steps.specs.Attempts.{noMore, slot, refusedPop, nothing, handed, freshTicket, freshAt, poppedBy, popped}
 use Rattle.queue_steps.specs.declared.attempts.Popped.{Popped}
-use Rattle.queue_steps.specs.declared.attempts.Popped.the-variants.{Work, Nothing}
+use Rattle.queue_steps.specs.declared.attempts.Popped.the-variants.{Work}
 use Rattle.queue_steps.specs.declared.attempts.PopAnswer.{PopAnswer}
-use Rattle.cleanup_queue.specs.Promises.{isNone, handsOut, mayHandOut, FreshOf, HandedOut}
+use Rattle.cleanup_queue.specs.Promises.{isNone, handsOut, mayHandOut, HandedOut}
 use Rattle.cleanup_queue.proofs.ByCase.{all-occupied, chosen-full, Popping, pop-by}
 
 -- ---- exactly when

@@ -1,12 +1,12 @@
 -- Every call keeps a well-formed record well formed
 use Prim.Native.Nat.{ℕ, _+_, _<_}
-use mathlib.Core.Path.{_≡_, refl, sym, ap, _∙_}
-use mathlib.Core.Bool.{Bool, true, false, not, _&&_}
+use mathlib.Core.Path.{_≡_, refl, ap, _∙_}
+use mathlib.Core.Bool.{Bool, true, false, not}
 use mathlib.Core.List.{List}
 use native.Mathlib.Omega.{arith}
-use borrow.Author.Tests.{eq-eqb, ltb-true, ltb-false}
+use borrow.Author.Tests.{ltb-true, ltb-false}
 use lib.Dec.{eqb, ltb}
-use lib.ListN.{length, getD, drop, set, List·getD-eq-default}
+use lib.ListN.{length, getD, set, List·getD-eq-default}
 use lib.Seq.{getD-set-same, getD-set-other, drop-set-lt, set-out}
 use Rattle.stage.specs.Phases.{next, isSettled}
 use Rattle.stage.specs.declared.phases.Phase.{Phase}
@@ -25,12 +25,12 @@ use Rattle.queue_record.specs.declared.record.Queue.{Queue}
 use Rattle.queue_record.proofs.Zeros.{full-below, rest-more}
 use Rattle.queue_record.proofs.Fit.{Fit, fit, fits, ticket-born, ticket-domain, ticket-before, ticket-fits, selected-domain, selected-born, selected-before, failed-not-issued, issued-not-failed}
 use Rattle.queue_steps.specs.Births.{grown, registered, landed}
-use Rattle.queue_steps.specs.Attempts.{noMore, slot, issuedTo, freshTicket, popped, tookBack, answered, completed, mayRetry, retryAllowed, renewed, again, retried}
+use Rattle.queue_steps.specs.Attempts.{noMore, slot, issuedTo, freshTicket, popped, tookBack, completed, retryAllowed, renewed, again, retried}
 use Rattle.queue_steps.specs.declared.births.RegisterAnswer.{RegisterAnswer}
 use Rattle.queue_steps.specs.declared.attempts.PopAnswer.{PopAnswer}
 use Rattle.queue_steps.specs.declared.attempts.CompleteAnswer.{CompleteAnswer}
 use Rattle.queue_steps.specs.declared.attempts.RetryAnswer.{RetryAnswer}
-use Rattle.queue_stages.specs.Stages.{afterAdmit, admitted, ended, cancelledBy}
+use Rattle.queue_stages.specs.Stages.{admitted, ended, cancelledBy}
 use Rattle.queue_stages.specs.declared.stages.StageAnswer.{StageAnswer}
 use Rattle.queue_stages.specs.declared.stages.CancelAnswer.{CancelAnswer}
 use Rattle.cleanup_queue.proofs.ByCase.{register-by, land-by, Popping, pop-by, Outside, complete-by, retry-by}

@@ -6,3 +6,4 @@ pub mod HandsOut
 pub mod Rises
 pub mod Finish
 pub mod Cases
+pub mod Numbers

@@ -1,10 +1,10 @@
 -- The waiting tokens after each call, as a list and in order
 use Prim.Native.Nat.{ℕ, _+_, _<_}
 use mathlib.Core.Path.{_≡_, refl, sym, ap, _∙_}
-use mathlib.Core.Bool.{Bool, true, false, not, _&&_}
+use mathlib.Core.Bool.{Bool, true, false, not}
 use mathlib.Core.List.{List, [], _∷_, _++_}
 use native.Mathlib.Omega.{arith}
-use borrow.Author.Tests.{eqb-true, eqb-false, not-false}
+use borrow.Author.Tests.{eqb-true, not-false}
 use lib.Dec.{eqb}
 use lib.ListN.{length, set}
 use Rattle.stage.proofs.Ways.{if-by, pass}
@@ -17,12 +17,12 @@ use Rattle.queue_record.specs.declared.record.Ticket.{Ticket}
 use Rattle.queue_record.specs.declared.record.Selection.{Selection}
 use Rattle.queue_record.specs.declared.record.Selection.the-variants.{Free, Of}
 use Rattle.queue_record.specs.declared.record.Queue.{Queue}
-use Rattle.queue_record.proofs.Fit.{Fit, fit, ticket-born}
+use Rattle.queue_record.proofs.Fit.{fit, ticket-born}
 use Rattle.queue_record.specs.WellFormed.{ticketFits}
-use Rattle.queue_record.proofs.Waiting.{without-keep, without-twice, without-append, emptied-slots, stored-slots, appended-slots}
+use Rattle.queue_record.proofs.Waiting.{without-keep, without-append, emptied-slots, stored-slots, appended-slots}
 use Rattle.queue_record.proofs.Last.{newest-last}
 use Rattle.queue_steps.specs.Births.{grown, registered, landed}
-use Rattle.queue_steps.specs.Attempts.{slot, issuedTo, freshTicket, popped, keepsOnDone, tookBack, answered, completed, retried}
+use Rattle.queue_steps.specs.Attempts.{slot, issuedTo, freshTicket, popped, keepsOnDone, tookBack, completed, retried}
 use Rattle.queue_steps.specs.declared.births.Registered.{Registered}
 use Rattle.queue_steps.specs.declared.births.Registered.the-variants.{Token}
 use Rattle.queue_steps.specs.declared.births.RegisterAnswer.{RegisterAnswer}
@@ -34,7 +34,7 @@ use Rattle.queue_stages.specs.Stages.{admitted, ended, cancelledBy}
 use Rattle.queue_stages.specs.declared.stages.StageAnswer.{StageAnswer}
 use Rattle.queue_stages.specs.declared.stages.CancelAnswer.{CancelAnswer}
 use Rattle.cleanup_queue.specs.Promises.{handsOut}
-use Rattle.cleanup_queue.proofs.ByCase.{register-by, land-by, Popping, pop-by, Outside, complete-by, retry-by}
+use Rattle.cleanup_queue.proofs.ByCase.{register-by, land-by, pop-by, Outside, complete-by, retry-by}
 
 -- ---- register and land append one
 module _ (q : Queue) (n : ℕ) (s : Sized q) where

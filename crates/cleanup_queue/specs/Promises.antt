@@ -10,7 +10,6 @@ use Rattle.stage.specs.Phases.{isPending, isCancelled}
 use Rattle.queue_record.specs.WellFormed.{wellFormed, isSelected}
 use Rattle.queue_record.specs.Waiting.{waiting}
 use Rattle.queue_record.specs.declared.record.Ticket.{Ticket}
-use Rattle.queue_record.specs.declared.record.Selection.{Selection}
 use Rattle.queue_record.specs.declared.record.Selection.the-variants.{Free, Of}
 use Rattle.queue_record.specs.declared.record.Queue.{Queue}
 use Rattle.queue_steps.specs.Attempts.{noMore, slot, freshTicket}

@@ -1,5 +1,5 @@
 -- The newest occupied place: the walk that finds it, and what it is
-use Prim.Native.Nat.{ℕ, zero, suc, _+_, _<_, _≤_}
+use Prim.Native.Nat.{ℕ, suc, _+_, _<_, _≤_}
 use mathlib.Core.Path.{_≡_, refl, sym, ap, _∙_}
 use mathlib.Core.Bool.{Bool, true, false}
 use mathlib.Core.Logic.{_⊎_, inl, inr, ⊎-elim}
@@ -13,7 +13,7 @@ use lib.Seq.{drop-cons}
 use Rattle.stage.specs.Choice.{if_then_else_}
 use Rattle.stage.proofs.Ways.{hit, miss}
 use Rattle.queue_record.specs.Waiting.{occupied, without}
-use Rattle.queue_record.proofs.Waiting.{by-first, without-skip, without-keep}
+use Rattle.queue_record.proofs.Waiting.{without-skip, without-keep}
 use Rattle.queue_record.specs.Newest.{lastOr, newest}
 use Rattle.queue_record.specs.declared.search.Found.{Found}
 use Rattle.queue_record.specs.declared.search.Found.the-variants.{At, Missing}

@@ -6,9 +6,8 @@ use crate::refusal::TOO_MANY_BINDINGS;
 use stage::Phase;
 ghost use mathlib.Core.Path.{_≡_};
 ghost use Prim.Native.Nat.{_≤_};
-ghost use mathlib.Core.List.{[]};
 ghost use lib.ListN.{length};
-ghost use Rattle.queue_record.specs.Openings.{kept, opened, scopeOf, iteratorOpened};
+ghost use Rattle.queue_record.specs.Openings.{kept, scopeOf, iteratorOpened};
 
 pub enum Opened {
     Open,

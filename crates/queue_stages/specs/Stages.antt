@@ -1,5 +1,4 @@
 -- Admit, end and cancel: document 01, "Stage phases"
-use Prim.Native.Nat.{ℕ}
 use mathlib.Core.Bool.{Bool, not}
 use Rattle.stage.specs.Choice.{if_then_else_}
 use Rattle.stage.specs.Phases.{next, isPending}

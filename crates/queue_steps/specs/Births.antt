@@ -1,6 +1,6 @@
 -- Register and land: document 01, "Steps", refusals in the order of "Numbers of refusal"
 use Prim.Native.Nat.{ℕ, _+_}
-use mathlib.Core.Bool.{Bool, not}
+use mathlib.Core.Bool.{not}
 use lib.Dec.{eqb, leb}
 use Rattle.stage.specs.Choice.{if_then_else_}
 use Rattle.stage.specs.Phases.{next, isPending}
@@ -9,7 +9,6 @@ use Rattle.queue_record.specs.Refusals.{broken, badNumber, noSlot, notPending}
 use Rattle.queue_record.specs.Record.{withSlot, withCount, withPhase}
 use Rattle.queue_record.specs.WellFormed.{wellFormed}
 use Rattle.queue_record.specs.declared.record.Queue.{Queue}
-use Rattle.queue_steps.specs.declared.births.Registered.{Registered}
 use Rattle.queue_steps.specs.declared.births.Registered.the-variants.{Token, Refused}
 use Rattle.queue_steps.specs.declared.births.RegisterAnswer.{RegisterAnswer}
 

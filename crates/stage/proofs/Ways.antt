@@ -1,7 +1,7 @@
 -- A way through tests: what a choice, a conjunction or an alternative is once its first test is known
 use Prim.Native.Nat.{ℕ}
 use mathlib.Core.Path.{_≡_, refl, sym, ap, _∙_}
-use mathlib.Core.Bool.{Bool, true, false, not, _&&_, _||_, or-true}
+use mathlib.Core.Bool.{Bool, true, false, not, _&&_, _||_}
 use native.Mathlib.Omega.{arith}
 use Rattle.stage.specs.Choice.{if_then_else_}
 

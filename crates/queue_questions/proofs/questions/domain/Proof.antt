@@ -1,5 +1,5 @@
 -- Refused, or told
-use mathlib.Core.Path.{sym, _∙_}
+use mathlib.Core.Path.{sym}
 use Rattle.stage.proofs.Ways.{hit, miss, negated}
 use Rattle.queue_questions.specs.Questions.{domainTold}
 use borrow.Author.Needs.{needs}

@@ -1,7 +1,5 @@
 -- Nothing selected, and the search finds nothing
 use mathlib.Core.Path.{sym, ap, _∙_}
-use mathlib.Core.List.{List}
-use Prim.Native.Nat.{ℕ}
 use denote.Ref.{now}
 use Rattle.queue_record.specs.Waiting.{occupied, others}
 use Rattle.queue_record.specs.declared.record.Selection.{Selection}

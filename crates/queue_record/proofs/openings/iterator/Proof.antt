@@ -1,11 +1,8 @@
 -- Refused with the blank queue, or open with the given bindings
-use Prim.Native.Nat.{ℕ}
 use mathlib.Core.Path.{sym, ap, _∙_}
-use mathlib.Core.List.{List}
-use mathlib.Core.Bool.{false}
 use borrow.Author.Tests.{lt-ltb, le-ltb}
 use Rattle.stage.proofs.Ways.{hit, miss}
-use Rattle.queue_record.specs.Openings.{iteratorOpened, iteratorOf, scopeOf, blank}
+use Rattle.queue_record.specs.Openings.{iteratorOpened, iteratorOf, blank}
 use Rattle.queue_record.specs.Refusals.{tooManyBindings}
 use Rattle.queue_record.specs.declared.openings.Opened.the-variants.{Refused}
 use Rattle.queue_record.specs.declared.openings.OpenAnswer.{OpenAnswer}

@@ -3,7 +3,6 @@ use mathlib.Core.Path.{sym, ap, _∙_}
 use Rattle.stage.proofs.Ways.{hit, miss, negated}
 use Rattle.queue_record.specs.Record.{withPhase}
 use Rattle.queue_record.specs.declared.record.Queue.{Queue}
-use Rattle.stage.specs.declared.phases.Phase.{Phase}
 use Rattle.queue_stages.specs.Stages.{cancelledBy}
 use Rattle.queue_stages.specs.declared.stages.CancelAnswer.{CancelAnswer}
 use Rattle.queue_stages.specs.declared.stages.Cancelled.{Cancelled}

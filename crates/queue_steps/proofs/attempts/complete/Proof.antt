@@ -1,6 +1,5 @@
 -- A return for each refusal, and the answer taken in
-use mathlib.Core.Bool.{true}
-use mathlib.Core.Path.{_≡_, sym, ap, _∙_}
+use mathlib.Core.Path.{sym, ap, _∙_}
 use borrow.Author.Tests.{lt-ltb, le-ltb, not-false}
 use Rattle.stage.proofs.Ways.{hit, miss, negated}
 use Rattle.queue_record.specs.declared.record.Queue.{Queue}

@@ -1,5 +1,5 @@
 -- Asked of Done alone
-use mathlib.Core.Path.{sym, _∙_}
+use mathlib.Core.Path.{sym}
 use borrow.Author.Tests.{eq-eqb, ne-eqb}
 use Rattle.stage.proofs.Ways.{pass, stop}
 use Rattle.queue_steps.proofs.attempts.keeps_on_done.Statement.{statement}

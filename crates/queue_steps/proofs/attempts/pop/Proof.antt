@@ -1,7 +1,5 @@
 -- Nothing while one is out or failed; else the ready ticket, or a fresh one
-use Prim.Native.Nat.{_<_}
-use mathlib.Core.Bool.{true}
-use mathlib.Core.Path.{_≡_, sym, ap, _∙_}
+use mathlib.Core.Path.{sym, ap, _∙_}
 use borrow.Author.Tests.{eq-eqb, ne-eqb, not-false}
 use Rattle.stage.proofs.Ways.{hit, miss, negated}
 use Rattle.queue_record.specs.Waiting.{occupied, others}

@@ -1,7 +1,7 @@
 -- Refused, or the ticket renewed
 use Prim.Native.Nat.{_<_}
 use lib.ListN.{getD}
-use mathlib.Core.Path.{_≡_, sym, ap, _∙_}
+use mathlib.Core.Path.{sym, ap, _∙_}
 use borrow.Author.Tests.{not-false}
 use Rattle.stage.proofs.Ways.{hit, miss, negated}
 use Rattle.queue_record.proofs.Fit.{selected-below}

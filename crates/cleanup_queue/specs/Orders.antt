@@ -1,0 +1,98 @@
+-- The refusals of each call in document 01's order, each with when it is given: "Numbers of refusal", table and last line
+use Prim.Native.Nat.{ℕ}
+use mathlib.Core.Bool.{Bool, true, false, not, _&&_}
+use mathlib.Core.List.{List, [], _∷_}
+use lib.Dec.{eqb, leb, ltb}
+use Rattle.stage.specs.Choice.{if_then_else_}
+use Rattle.stage.specs.Phases.{isPending}
+use Rattle.queue_record.specs.Refusals.{done, broken, badNumber, noSlot, notPending, noAttempt, notOut, keptOnDone, noRetry, hollow, badOutcome}
+use Rattle.queue_record.specs.WellFormed.{wellFormed}
+use Rattle.queue_record.specs.Waiting.{waiting}
+use Rattle.queue_record.specs.Newest.{newest}
+use Rattle.queue_record.specs.declared.search.Found.{Found}
+use Rattle.queue_record.specs.declared.search.Found.the-variants.{At, Missing}
+use Rattle.queue_record.specs.declared.record.Ticket.{Ticket}
+use Rattle.queue_record.specs.declared.record.Selection.{Selection}
+use Rattle.queue_record.specs.declared.record.Selection.the-variants.{Free, Of}
+use Rattle.queue_record.specs.declared.record.Queue.{Queue}
+use Rattle.queue_steps.specs.Attempts.{noMore, slot, isOut, keepsOnDone, retryAllowed}
+
+-- a refusal's number, and whether what it is given for is the case
+pub record Due : Type 0 where
+  pub number : ℕ
+  pub case : Bool
+
+abbrev pub due : ℕ → Bool → Due
+due n b = record { number = n; case = b }
+
+-- the first that is due; 0, done, where none is
+abbrev pub firstDue : List Due → ℕ
+firstDue [] = done
+firstDue (d ∷ ds) = if d .case then d .number else firstDue ds
+
+-- register 1, 2, 3
+abbrev pub registerOrder : Queue → ℕ → List Due
+registerOrder q number =
+    due broken (not (wellFormed q)) ∷
+    due badNumber (eqb number 0) ∷
+    due noSlot (leb 64 (q .count)) ∷
+    []
+
+-- land 1, 2, 4, 3
+abbrev pub landOrder : Queue → ℕ → List Due
+landOrder q number =
+    due broken (not (wellFormed q)) ∷
+    due badNumber (eqb number 0) ∷
+    due notPending (not (isPending (q .phase))) ∷
+    due noSlot (leb 64 (q .count)) ∷
+    []
+
+-- the token that pop would make a fresh ticket for: none while something is issued, failed or selected
+abbrev pub freshToken : Bool → Bool → Selection → List ℕ → Found
+freshToken true failed s ks = Missing
+freshToken false true s ks = Missing
+freshToken false false (Of t) ks = Missing
+freshToken false false Free ks = newest ks
+
+-- the token that pop chooses: the ready one, or that of the fresh ticket
+abbrev pub chosenToken : Bool → Bool → Selection → List ℕ → Found
+chosenToken true failed s ks = Missing
+chosenToken false true s ks = Missing
+chosenToken false false (Of t) ks = At (t .token)
+chosenToken false false Free ks = newest ks
+
+abbrev pub isThere : Found → Bool
+isThere Missing = false
+isThere (At k) = true
+
+abbrev pub isHollow : Queue → Found → Bool
+isHollow q Missing = false
+isHollow q (At k) = eqb (slot q k) 0
+
+-- pop 1, 9, 5
+abbrev pub popOrder : Queue → List Due
+popOrder q =
+    due broken (not (wellFormed q)) ∷
+    due hollow (isHollow q (chosenToken (q .issued) (q .failed) (q .selection) (waiting q))) ∷
+    due noAttempt (isThere (freshToken (q .issued) (q .failed) (q .selection) (waiting q)) && leb noMore (q .next)) ∷
+    []
+
+-- complete 1, 15, 6, 7
+abbrev pub completeOrder : Queue → Ticket → ℕ → ℕ → List Due
+completeOrder q t outcome kept =
+    due broken (not (wellFormed q)) ∷
+    due badOutcome (ltb 1 outcome) ∷
+    due notOut (not (isOut (q .issued) (q .selection) t)) ∷
+    due keptOnDone (keepsOnDone outcome kept) ∷
+    []
+
+-- retry 1, 8
+abbrev pub retryOrder : Queue → List Due
+retryOrder q =
+    due broken (not (wellFormed q)) ∷
+    due noRetry (not (retryAllowed q (q .selection))) ∷
+    []
+
+-- yes-or-no calls refuse only with 1
+abbrev pub brokenOnly : Queue → List Due
+brokenOnly q = due broken (not (wellFormed q)) ∷ []
