@@ -50,8 +50,8 @@ module _ (q : Queue) (target : List ℕ) where
           record {
             sound = asked-yes q (finishable (q .selection) (q .phase) target (committed q)) h .0;
             free = e;
-            landed = not-true _ (and-left (not (isPending (q .phase))) _ f);
-            live = not-true _ (and-left (not (isCancelled (q .phase))) _ r);
+            notPending = not-true _ (and-left (not (isPending (q .phase))) _ f);
+            notCancelled = not-true _ (and-left (not (isCancelled (q .phase))) _ r);
             same = same-means target (committed q) (and-right (not (isCancelled (q .phase))) _ r);
           }
 
@@ -59,7 +59,7 @@ module _ (q : Queue) (target : List ℕ) where
   unfolding canFinishTold
   means-finish f =
       yes-asked q (finishable (q .selection) (q .phase) target (committed q)) (f .sound)
-      ∙ ap yesOrNo (ap (λ (s : Selection). finishable s (q .phase) target (committed q)) (f .free) ∙ (pass _ (ap not (f .landed)) ∙ (pass _ (ap not (f .live)) ∙ means-same target (committed q) (f .same))))
+      ∙ ap yesOrNo (ap (λ (s : Selection). finishable s (q .phase) target (committed q)) (f .free) ∙ (pass _ (ap not (f .notPending)) ∙ (pass _ (ap not (f .notCancelled)) ∙ means-same target (committed q) (f .same))))
 
 -- there is a record for which it says yes
 pub finish-happens : canFinishTold (scopeOf 0 0) [] ≡ Yes

@@ -2,9 +2,12 @@
 use Prim.Native.Nat.{ℕ}
 use mathlib.Core.Path.{_≡_, refl}
 use mathlib.Core.Bool.{Bool, true, false, not, _&&_}
-use mathlib.Core.List.{[], _∷_}
+use mathlib.Core.List.{List, [], _∷_}
 use native.Mathlib.Omega.{arith}
 use lib.Dec.{eqb, leb, ltb}
+use lib.ListN.{length}
+use Rattle.queue_record.specs.Openings.{iteratorOpened}
+use Rattle.queue_record.specs.declared.openings.OpenAnswer.{OpenAnswer}
 use Rattle.stage.specs.Choice.{if_then_else_}
 use Rattle.stage.specs.Phases.{isPending}
 use Rattle.queue_record.specs.Refusals.{noAttempt, noRetry, hollow}
@@ -33,9 +36,9 @@ use Rattle.queue_questions.specs.declared.questions.DomainTold.{DomainTold}
 use Rattle.queue_stages.specs.Stages.{afterAdmit, admitted, ended, cancelledBy}
 use Rattle.queue_stages.specs.declared.stages.StageAnswer.{StageAnswer}
 use Rattle.queue_stages.specs.declared.stages.CancelAnswer.{CancelAnswer}
-use Rattle.cleanup_queue.specs.Answers.{registeredSays, poppedSays, completedSays, retriedSays, toldSays, cancelledSays, domainSays}
+use Rattle.cleanup_queue.specs.Answers.{openedSays, registeredSays, poppedSays, completedSays, retriedSays, toldSays, cancelledSays, domainSays}
 use Rattle.cleanup_queue.proofs.ByCase.{register-by, land-by, pop-by, complete-by, retry-by}
-use Rattle.cleanup_queue.specs.Orders.{due, firstDue, registerOrder, landOrder, freshToken, chosenToken, isThere, isHollow, popOrder, completeOrder, retryOrder, brokenOnly}
+use Rattle.cleanup_queue.specs.Orders.{due, firstDue, openingOrder, registerOrder, landOrder, freshToken, chosenToken, isThere, isHollow, popOrder, completeOrder, retryOrder, brokenOnly}
 
 -- what a refusal of register or land gives back
 abbrev Returns : Queue → ℕ → RegisterAnswer → Type 0
@@ -45,6 +48,11 @@ Returns q n r = (refusal given : ℕ) → r .answer ≡ Registered.Refused refus
 due-if : {A : Type 0} (number : A → ℕ) (b : Bool) (x y : A) {k m : ℕ} → number x ≡ k → number y ≡ m → number (if b then x else y) ≡ (if b then k else m)
 due-if number true x y p q = p
 due-if number false x y p q = q
+
+-- ---- the opening of an iterator
+pub opening-number : (domain first : ℕ) (bindings : List ℕ) → openedSays (iteratorOpened domain first bindings .answer) .number ≡ firstDue (openingOrder bindings)
+unfolding iteratorOpened
+opening-number domain first bindings = due-if (λ (r : OpenAnswer). openedSays (r .answer) .number) (ltb 16 (length bindings)) _ _ refl refl
 
 -- ---- register and land
 module _ (q : Queue) (n : ℕ) where

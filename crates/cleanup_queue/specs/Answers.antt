@@ -2,6 +2,7 @@
 use Prim.Native.Nat.{ℕ}
 use mathlib.Core.List.{List, [], _∷_}
 use Rattle.queue_record.specs.Refusals.{done}
+use Rattle.queue_record.specs.declared.openings.Opened.{Opened}
 use Rattle.queue_steps.specs.declared.births.Registered.{Registered}
 use Rattle.queue_steps.specs.declared.attempts.Popped.{Popped}
 use Rattle.queue_steps.specs.declared.attempts.Completed.{Completed}
@@ -16,6 +17,11 @@ pub record Said : Type 0 where
 
 abbrev pub says : ℕ → List ℕ → Said
 says n vs = record { number = n; values = vs }
+
+-- an opening has no value
+abbrev pub openedSays : Opened → Said
+openedSays Opened.Open = says done []
+openedSays (Opened.Refused n) = says n []
 
 -- register and land: the token; a refusal returns the number given
 abbrev pub registeredSays : Registered → Said

@@ -3,9 +3,10 @@ use Prim.Native.Nat.{ℕ}
 use mathlib.Core.Bool.{Bool, true, false, not, _&&_}
 use mathlib.Core.List.{List, [], _∷_}
 use lib.Dec.{eqb, leb, ltb}
+use lib.ListN.{length}
 use Rattle.stage.specs.Choice.{if_then_else_}
 use Rattle.stage.specs.Phases.{isPending}
-use Rattle.queue_record.specs.Refusals.{done, broken, badNumber, noSlot, notPending, noAttempt, notOut, keptOnDone, noRetry, hollow, badOutcome}
+use Rattle.queue_record.specs.Refusals.{done, broken, badNumber, noSlot, notPending, noAttempt, notOut, keptOnDone, noRetry, hollow, badOutcome, tooManyBindings}
 use Rattle.queue_record.specs.WellFormed.{wellFormed}
 use Rattle.queue_record.specs.Waiting.{waiting}
 use Rattle.queue_record.specs.Newest.{newest}
@@ -29,6 +30,10 @@ due n b = record { number = n; case = b }
 abbrev pub firstDue : List Due → ℕ
 firstDue [] = done
 firstDue (d ∷ ds) = if d .case then d .number else firstDue ds
+
+-- an iterator's opening 14
+abbrev pub openingOrder : List ℕ → List Due
+openingOrder bindings = due tooManyBindings (ltb 16 (length bindings)) ∷ []
 
 -- register 1, 2, 3
 abbrev pub registerOrder : Queue → ℕ → List Due

@@ -50,6 +50,6 @@ pub record HandedOut (q : Queue) (t : Ticket) (number : ℕ) : Type 0 where
 pub record Finishable (q : Queue) (target : List ℕ) : Type 0 where
   pub sound : wellFormed q ≡ true
   pub free : q .selection ≡ Free
-  pub landed : isPending (q .phase) ≡ false
-  pub live : isCancelled (q .phase) ≡ false
+  pub notPending : isPending (q .phase) ≡ false
+  pub notCancelled : isCancelled (q .phase) ≡ false
   pub same : SameMembers target (committed q)

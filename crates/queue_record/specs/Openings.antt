@@ -11,10 +11,9 @@ use Rattle.queue_record.specs.declared.record.Kind.{Kind}
 use Rattle.queue_record.specs.declared.record.Kind.the-variants.{Scope, Iterator}
 use Rattle.queue_record.specs.declared.record.Selection.the-variants.{Free}
 use Rattle.queue_record.specs.declared.record.Queue.{Queue}
-use Rattle.queue_record.specs.declared.openings.Opened.{Opened}
 use Rattle.queue_record.specs.declared.openings.Opened.the-variants.{Open, Refused}
 use Rattle.queue_record.specs.declared.openings.OpenAnswer.{OpenAnswer}
-use Rattle.queue_record.specs.Refusals.{done, tooManyBindings}
+use Rattle.queue_record.specs.Refusals.{tooManyBindings}
 
 -- the bindings as given, and 0 in the places behind them
 abbrev pub kept : List ℕ → List ℕ
@@ -41,8 +40,3 @@ unfoldable pub iteratorOpened : ℕ → ℕ → List ℕ → OpenAnswer
 iteratorOpened domain first bindings =
     if ltb 16 (length bindings) then record { answer = Refused tooManyBindings; queue = blank } else
     record { answer = Open; queue = iteratorOf domain first bindings }
-
--- the number of an opening's answer; it has no further value
-abbrev pub openedNumber : Opened → ℕ
-openedNumber Open = done
-openedNumber (Refused n) = n

@@ -13,6 +13,14 @@ use Rattle.queue_record.specs.declared.record.Selection.{Selection}
 use Rattle.queue_record.specs.declared.record.Selection.the-variants.{Free, Of}
 use Rattle.queue_record.specs.declared.record.Queue.{Queue}
 
+-- at most 64 tokens
+abbrev pub tokensFit : ℕ → Bool
+tokensFit count = leb count 64
+
+-- and 16 bindings
+abbrev pub bindingsFit : ℕ → Bool
+bindingsFit bound = leb bound 16
+
 abbrev pub allZero : List ℕ → Bool
 allZero [] = true
 allZero (x ∷ xs) = eqb x 0 && allZero xs
@@ -54,10 +62,8 @@ allTrue (b ∷ bs) = b && allTrue bs
 
 abbrev pub clauses : Queue → List Bool
 clauses q =
-    -- at most 64 tokens
-    leb (q .count) 64 ∷
-    -- and 16 bindings
-    leb (q .bound) 16 ∷
+    tokensFit (q .count) ∷
+    bindingsFit (q .bound) ∷
     restZero (q .count) (q .slots) ∷
     restZero (q .bound) (q .bindings) ∷
     scopeFits (q .kind) (q .bound) (q .phase) ∷

@@ -8,6 +8,4 @@ pub use phases::Phase;
 pub use phases::cancelled;
 pub use phases::next_phase;
 pub use phases::pending;
-pub use phases::phase_at;
-pub use phases::phase_number;
 pub use phases::settled;
