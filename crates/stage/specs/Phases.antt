@@ -1,6 +1,6 @@
 -- The phases of a stage: document 01, "Stage phases"
 use Prim.Native.Nat.{ℕ}
-use mathlib.Core.Bool.{Bool, true, false}
+use mathlib.Core.Bool.{Bool, true, false, not}
 use lib.Dec.{eqb}
 use Rattle.stage.specs.Choice.{if_then_else_}
 use Rattle.stage.specs.declared.phases.Phase.{Phase}
@@ -70,3 +70,7 @@ phaseAt number =
     if eqb number 2 then Ended else
     if eqb number 3 then Stopping else
     Closed
+
+-- two phases are different ones: their numbers are
+abbrev pub differs : Phase → Phase → Bool
+differs p q = not (eqb (phaseNumber p) (phaseNumber q))

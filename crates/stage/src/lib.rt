@@ -6,6 +6,7 @@ pub use bindings::same_set;
 pub use phases::Event;
 pub use phases::Phase;
 pub use phases::cancelled;
+pub use phases::differ;
 pub use phases::next_phase;
 pub use phases::pending;
 pub use phases::settled;

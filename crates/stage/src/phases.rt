@@ -1,6 +1,6 @@
 // The five phases, the four events, and the table of next phases.
 ghost use mathlib.Core.Path.{_≡_};
-ghost use Rattle.stage.specs.Phases.{next, isPending, isSettled, isCancelled, phaseNumber, eventNumber, phaseAt};
+ghost use Rattle.stage.specs.Phases.{next, isPending, isSettled, isCancelled, phaseNumber, eventNumber, phaseAt, differs};
 
 pub enum Phase {
     Idle,
@@ -114,4 +114,11 @@ pub fn cancelled(phase: Phase) -> bool
         Phase::Pending => false,
         Phase::Ended => false,
     }
+}
+
+// Whether two phases are different ones.
+pub fn differ(a: Phase, b: Phase) -> bool
+    ensures { λ r. ⌜ r ≡ differs a b ⌝ }
+{
+    phase_number(a) != phase_number(b)
 }
