@@ -26,7 +26,7 @@ use Rattle.queue_questions.specs.declared.questions.Told.the-variants.{Yes, No,
 use Rattle.cleanup_queue.specs.Promises.{Finishable}
 
 -- ---- a question answered yes
-asked-yes : (q : Queue) (b : Bool) → asked q b ≡ Yes → (wellFormed q ≡ true) × (b ≡ true)
+pub asked-yes : (q : Queue) (b : Bool) → asked q b ≡ Yes → (wellFormed q ≡ true) × (b ≡ true)
 asked-yes q b h = go (wellFormed q) refl b refl h
   where
     go : (w : Bool) → wellFormed q ≡ w → (c : Bool) → b ≡ c → (if not w then Refused 1 else yesOrNo c) ≡ Yes → (wellFormed q ≡ true) × (b ≡ true)
@@ -34,7 +34,7 @@ asked-yes q b h = go (wellFormed q) refl b refl h
     go true e false f h = let z : _≡_ {A = ℕ} 0 1 = cc in absurd (omega arith)
     go false e c f h = let z : _≡_ {A = ℕ} 0 1 = cc in absurd (omega arith)
 
-yes-asked : (q : Queue) (b : Bool) → wellFormed q ≡ true → asked q b ≡ yesOrNo b
+pub yes-asked : (q : Queue) (b : Bool) → wellFormed q ≡ true → asked q b ≡ yesOrNo b
 yes-asked q b h = miss _ (ap not h)
 
 -- ---- can_finish

@@ -7,3 +7,4 @@ pub mod Rises
 pub mod Finish
 pub mod Cases
 pub mod Numbers
+pub mod Upstream

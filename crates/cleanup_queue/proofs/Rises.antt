@@ -88,11 +88,11 @@ module _ (q : Queue) where
 
 -- ---- over a whole run
 -- rising, and none below b
-data From : ℕ → List ℕ → Type 0 where
+pub data From : ℕ → List ℕ → Type 0 where
   empty : (b : ℕ) → From b []
   next : (b a : ℕ) (rest : List ℕ) → b ≤ a → From (suc a) rest → From b (a ∷ rest)
 
-lower : (b c : ℕ) (xs : List ℕ) → b ≤ c → From c xs → From b xs
+pub lower : (b c : ℕ) (xs : List ℕ) → b ≤ c → From c xs → From b xs
 lower b c xs l (empty _) = empty b
 lower b c xs l (next _ a rest h r) = next b a rest (omega arith) r
 
@@ -100,7 +100,7 @@ join : (a : ℕ) (rest : List ℕ) → From (suc a) rest → Rising rest → Ris
 join a rest (empty _) r = one a
 join a rest (next _ c later h _) r = more a c later h r
 
-from-rising : (b : ℕ) (xs : List ℕ) → From b xs → Rising xs
+pub from-rising : (b : ℕ) (xs : List ℕ) → From b xs → Rising xs
 from-rising b xs (empty _) = none
 from-rising b xs (next _ a rest h r) = join a rest r (from-rising (suc a) rest r)
 
