@@ -49,7 +49,7 @@ use Rattle.queue_stages.specs.declared.stages.Cancelled.{Cancelled}
 use Rattle.queue_stages.specs.declared.stages.CancelAnswer.{CancelAnswer}
 use Rattle.cleanup_queue.specs.Runs.{Call, register, land, pop, complete, retry, admit, end, cancel, after, Rising}
 use Rattle.cleanup_queue.proofs.ByCase.{register-by, land-by, Popping, pop-by, complete-by, retry-by}
-use Rattle.cleanup_queue.proofs.Rises.{From, empty, lower, from-rising}
+use Rattle.cleanup_queue.proofs.Rises.{From, empty, next as later, lower, from-rising}
 use Rattle.cleanup_queue.proofs.Finish.{asked-yes, yes-asked, finish-means}
 
 -- ---- local_wf: what well formed says of the waiting tokens
