@@ -8,3 +8,4 @@ pub mod Finish
 pub mod Cases
 pub mod Numbers
 pub mod Upstream
+pub mod Births

@@ -9,6 +9,7 @@ use lib.ListN.{length}
 use Rattle.queue_record.specs.Openings.{iteratorOpened}
 use Rattle.queue_record.specs.declared.openings.OpenAnswer.{OpenAnswer}
 use Rattle.stage.specs.Choice.{if_then_else_}
+use Rattle.stage.proofs.Ways.{if-by}
 use Rattle.stage.specs.Phases.{isPending}
 use Rattle.queue_record.specs.Refusals.{noAttempt, noRetry, hollow}
 use Rattle.queue_record.specs.WellFormed.{wellFormed}
@@ -36,6 +37,7 @@ use Rattle.queue_questions.specs.declared.questions.DomainTold.{DomainTold}
 use Rattle.queue_stages.specs.Stages.{afterAdmit, admitted, ended, cancelledBy}
 use Rattle.queue_stages.specs.declared.stages.StageAnswer.{StageAnswer}
 use Rattle.queue_stages.specs.declared.stages.CancelAnswer.{CancelAnswer}
+use Rattle.queue_stages.specs.declared.stages.Cancelled.{Cancelled}
 use Rattle.cleanup_queue.specs.Answers.{openedSays, registeredSays, poppedSays, completedSays, retriedSays, toldSays, cancelledSays, domainSays}
 use Rattle.cleanup_queue.proofs.ByCase.{register-by, land-by, pop-by, complete-by, retry-by}
 use Rattle.cleanup_queue.specs.Orders.{due, firstDue, openingOrder, registerOrder, landOrder, freshToken, chosenToken, isThere, isHollow, popOrder, completeOrder, retryOrder, brokenOnly}
@@ -135,6 +137,11 @@ module _ (q : Queue) where
   domain-number = due-if (λ (r : DomainTold). domainSays r .number) (not (wellFormed q)) _ _ refl refl
 
 -- ---- a refusal changes nothing, and the number given comes back
+-- yes and no are no refusals
+never-refused : {A : Type 0} (b : Bool) (n : ℕ) → yesOrNo b ≡ Told.Refused n → A
+never-refused true n e = let z : _≡_ {A = ℕ} 0 1 = cc in absurd (omega arith)
+never-refused false n e = let z : _≡_ {A = ℕ} 0 1 = cc in absurd (omega arith)
+
 pub register-returns : (q : Queue) (n refusal given : ℕ) → registered q n .answer ≡ Registered.Refused refusal given → (given ≡ n) × (registered q n .queue ≡ q)
 register-returns q n = register-by (Returns q n) q n (λ m refusal given e. (cc, refl)) (λ _ _ _ refusal given e. let z : _≡_ {A = ℕ} 0 1 = cc in absurd (omega arith))
 
@@ -155,3 +162,15 @@ pub retry-returns : (q : Queue) (refusal : ℕ) → retried q .answer ≡ Retrie
 retry-returns q =
     retry-by (λ (r : RetryAnswer). (refusal : ℕ) → r .answer ≡ Retried.Refused refusal → r .queue ≡ q) q (λ _ _ _. refl)
     (λ _ _ _ _ refusal e. let z : _≡_ {A = ℕ} 0 1 = cc in absurd (omega arith))
+
+pub admit-returns : (q : Queue) (matched : Bool) (refusal : ℕ) → admitted q matched .answer ≡ Told.Refused refusal → admitted q matched .queue ≡ q
+unfolding admitted
+admit-returns q matched refusal = if-by (λ (r : StageAnswer). r .answer ≡ Told.Refused refusal → r .queue ≡ q) (not (wellFormed q)) _ _ (λ _ _. refl) (λ _ e. never-refused (isPending (afterAdmit (q .phase) matched)) refusal e)
+
+pub end-returns : (q : Queue) (refusal : ℕ) → ended q .answer ≡ Told.Refused refusal → ended q .queue ≡ q
+unfolding ended
+end-returns q refusal = if-by (λ (r : StageAnswer). r .answer ≡ Told.Refused refusal → r .queue ≡ q) (not (wellFormed q)) _ _ (λ _ _. refl) (λ _ e. never-refused (isPending (q .phase)) refusal e)
+
+pub cancel-returns : (q : Queue) (refusal : ℕ) → cancelledBy q .answer ≡ Cancelled.Refused refusal → cancelledBy q .queue ≡ q
+unfolding cancelledBy
+cancel-returns q refusal = if-by (λ (r : CancelAnswer). r .answer ≡ Cancelled.Refused refusal → r .queue ≡ q) (not (wellFormed q)) _ _ (λ _ _. refl) (λ _ e. let z : _≡_ {A = ℕ} 0 1 = cc in absurd (omega arith))

@@ -8,6 +8,8 @@ use Rattle.queue_record.specs.declared.record.Selection.the-variants.{Free, Of}
 use Rattle.queue_record.specs.declared.record.Queue.{Queue}
 use Rattle.queue_steps.specs.Births.{registered, landed}
 use Rattle.queue_steps.specs.Attempts.{popped, completed, retried}
+use Rattle.queue_steps.specs.declared.births.Registered.{Registered}
+use Rattle.queue_steps.specs.declared.births.Registered.the-variants.{Token}
 use Rattle.queue_steps.specs.declared.attempts.Popped.{Popped}
 use Rattle.queue_steps.specs.declared.attempts.Popped.the-variants.{Work, Nothing, Refused}
 use Rattle.queue_stages.specs.Stages.{admitted, ended, cancelledBy}
@@ -67,6 +69,26 @@ handedBy q cancel = []
 abbrev pub attempts : Queue → List Call → List ℕ
 attempts q [] = []
 attempts q (c ∷ cs) = handedBy q c ++ attempts (after q c) cs
+
+-- the token that an answer of register or land gives, if it does
+abbrev pub tokenOf : Registered → List ℕ
+tokenOf (Token token) = token ∷ []
+tokenOf (Registered.Refused n given) = []
+
+abbrev pub bornBy : Queue → Call → List ℕ
+bornBy q (register number) = tokenOf (registered q number .answer)
+bornBy q (land number) = tokenOf (landed q number .answer)
+bornBy q pop = []
+bornBy q (complete ticket outcome kept) = []
+bornBy q retry = []
+bornBy q (admit matched) = []
+bornBy q end = []
+bornBy q cancel = []
+
+-- the tokens that a run gives, in order
+abbrev pub tokens : Queue → List Call → List ℕ
+tokens q [] = []
+tokens q (c ∷ cs) = bornBy q c ++ tokens (after q c) cs
 
 -- each is larger than the one before
 pub data Rising : List ℕ → Type 0 where
