@@ -1,0 +1,83 @@
+-- Demand 3: recorded histories and the language are the same set, and the reader's end state is the one state that they leave
+use Prim.Native.Nat.{ℕ, zero, suc, _+_, _*_, _<_, _≤_}
+use mathlib.Core.Path.{_≡_, refl, sym, ap, _∙_, subst}
+use mathlib.Core.Logic.{_↔_}
+use mathlib.Core.Bool.{true}
+use mathlib.Core.List.{List, [], _∷_, _++_}
+use native.Mathlib.Omega.{arith}
+use borrow.Author.Tests.{le-leb}
+use lib.ListN.{length, take, drop, length-append}
+use Rattle.queue_record.specs.declared.record.Queue.{Queue}
+use Rattle.queue_record.specs.declared.openings.Opened.{Opened}
+use Rattle.log_rows.specs.Rows.{rows}
+use Rattle.cleanup_queue.specs.Runs.{after}
+use Rattle.log_rows.specs.Appending.{rowsFit, appended}
+use Rattle.log_rows.specs.declared.Row.{Row}
+use Rattle.log_rows.proofs.Space.{room-there}
+use Rattle.log_language.specs.Language.{Opening, Belongs}
+use Rattle.log_language.specs.RowSteps.{State, opened, may, endState}
+use Rattle.log_language.proofs.Core.{one-more-may}
+use Rattle.log_language.proofs.Lists.{snoc-ind}
+use Rattle.log_language.specs.FirstBad.{WordsBelong}
+use Rattle.log_reader.specs.Replay.{replayed}
+use Rattle.log_reader.specs.Reader.{endOf, openedAs}
+use Rattle.log_reader.proofs.StageRows.{row-agrees}
+use Rattle.history.specs.Histories.{Bench, bench, called, Start, History, opens, calls, rowsOf, openedQueue, opening}
+use Rattle.history.proofs.Written.{Put}
+use Rattle.history.proofs.Steps.{Wrote}
+use Rattle.history.proofs.CallOfRow.{Writes, writes}
+use Rattle.history.proofs.Spoken.{Stands, stands, history-belongs, history-ends, rows-after}
+
+-- a history that leaves exactly these rows, with the memory behind them as it was
+pub record Leaves (s : Start) (rs : List Row) : Type 0 where
+  pub end : Bench
+  pub history : History s end
+  pub wrote : rowsOf end ≡ rs
+  pub used : end .used ≡ length rs
+  pub behind : drop (length rs * 5) (end .log) ≡ drop (length rs * 5) (s .memory)
+
+fitted : (x : Bench) → x .used * 5 ≤ length (x .log) → rowsFit (length (x .log)) (x .used) ≡ true
+unfolding rowsFit
+fitted x a = le-leb _ _ a
+
+module _ (s : Start) (unrefused : openedAs (s .kind) (s .domain) (s .first) (s .bindings) .answer ≡ Opened.Open) where
+  abbrev Spoken : List Row → Type 0
+  Spoken rs = Belongs (opening s) rs → length rs * 5 ≤ length (s .memory) → Leaves s rs
+
+  first-of : Spoken []
+  unfolding rows
+  first-of b l = record { end = bench (openedQueue s) 0 (s .memory); history = opens unrefused; wrote = refl; used = refl; behind = refl }
+
+  -- one row more, by the call that writes it
+  one-more : (rs : List Row) (r : Row) → Spoken rs → Spoken (rs ++ (r ∷ []))
+  one-more rs r ih b l =
+      let m = one-more-may (opening s) rs r .0 b in
+      let n : length (rs ++ (r ∷ [])) ≡ length rs + 1 = length-append rs (r ∷ []) in
+      let h : Leaves s rs = ih (m .0) (omega arith) in
+      let i : Stands s (h .end) = stands s (h .end) (h .history) in
+      let u : h .end .used ≡ length rs = h .used in
+      let few : length rs < 4096 = m .1 in
+      let long : length (h .end .log) ≡ length (s .memory) = i .long in
+      let k : may (endState (opened (opening s)) (rowsOf (h .end))) r ≡ true = ap (λ (x : List Row). may (endState (opened (opening s)) x) r) (h .wrote) ∙ m .2 in
+      let f : replayed (h .end .queue) r .fits ≡ true = row-agrees (h .end .queue) (i .sound) (i .sized) r .fits ∙ (ap (λ (x : State). may x r) (i .state) ∙ k) in
+      let p : Put (h .end .log) (h .end .used) = room (h .end) (i .within) (omega arith) (omega arith) in
+      let w : Writes (h .end) r = writes (h .end) (i .sound) p r f in
+      let next : History s (called (h .end) (w .call)) = calls (h .history) (w .call) (w .fine) in
+      let e : rowsOf (called (h .end) (w .call)) ≡ rs ++ (r ∷ []) = ap rowsOf (w .left) ∙ (rows-after (h .end) r p (after (h .end .queue) (w .call)) ∙ ap (λ (x : List Row). x ++ (r ∷ [])) (h .wrote)) in
+      let v : called (h .end) (w .call) .used ≡ length (rs ++ (r ∷ [])) = ap (λ (x : Bench). x .used) (w .left) ∙ (ap (λ (x : ℕ). x + 1) u ∙ sym n) in
+      record { end = called (h .end) (w .call); history = next; wrote = e; used = v; behind = subst (λ (x : ℕ). drop (x * 5) (called (h .end) (w .call) .log) ≡ drop (x * 5) (s .memory)) v (stands s (called (h .end) (w .call)) next .behind) }
+    where
+      room : (x : Bench) → x .used * 5 ≤ length (x .log) → x .used < 4096 → x .used * 5 + 5 ≤ length (x .log) → Put (x .log) (x .used)
+      room x a c d = record { fits = fitted x a; room = room-there (length (x .log)) (x .used) c d }
+
+  -- every log in the language, given memory with room for its rows, is left by some history
+  pub language-spoken : (rs : List Row) → Spoken rs
+  language-spoken = snoc-ind Spoken first-of one-more
+
+-- any two histories with the same opening and the same rows leave the same record
+pub same-record : (s t : Start) (a b : Bench) → openedQueue s ≡ openedQueue t → History s a → History t b → rowsOf a ≡ rowsOf b → a .queue ≡ b .queue
+same-record s t a b o h k e = history-ends s a h ∙ (ap (λ (q : Queue). endOf q (rowsOf a)) o ∙ (ap (endOf (openedQueue t)) e ∙ sym (history-ends t b k)))
+
+-- the logs of histories are exactly the language: with room for the rows, some history leaves them if and only if they belong
+pub histories-language : (s : Start) (rs : List Row) → openedAs (s .kind) (s .domain) (s .first) (s .bindings) .answer ≡ Opened.Open → length rs * 5 ≤ length (s .memory) → Leaves s rs ↔ Belongs (opening s) rs
+histories-language s rs unrefused room = (λ l. subst (λ (x : List Row). Belongs (opening s) x) (l .wrote) (history-belongs s (l .end) (l .history)), λ b. language-spoken s unrefused rs b room)

@@ -1,0 +1,145 @@
+-- Every history's rows belong to the language of its opening, and its record is what the reader's end state says
+use Prim.Native.Nat.{ℕ, zero, suc, _+_, _*_, _/_, _<_, _≤_}
+use mathlib.Core.Path.{_≡_, refl, sym, ap, _∙_, subst}
+use mathlib.Core.Logic.{_⊎_, inl, inr, ⊎-elim}
+use mathlib.Core.Bool.{Bool, true, false}
+use mathlib.Core.List.{List, [], _∷_, _++_}
+use native.Mathlib.Omega.{arith}
+use lib.ListN.{length, take, drop, length-append, length-drop}
+use lib.Seq.{length-take-le, drop-at, drop-drop}
+use Rattle.stage.proofs.Ways.{hit}
+use Rattle.queue_record.specs.Record.{Sized}
+use Rattle.queue_record.specs.WellFormed.{wellFormed}
+use Rattle.queue_record.specs.declared.record.Kind.{Kind}
+use Rattle.queue_record.specs.declared.record.Kind.the-variants.{Scope, Iterator}
+use Rattle.queue_record.specs.declared.record.Queue.{Queue}
+use Rattle.queue_record.specs.declared.openings.Opened.{Opened}
+use Rattle.queue_record.proofs.Opened.{scope-well-formed, scope-sized, opening-well-formed, opening-sized}
+use Rattle.cleanup_queue.specs.Runs.{Call, after}
+use Rattle.log_rows.specs.Rows.{rows, flat, written}
+use Rattle.log_rows.specs.Appending.{hasRoom, appended}
+use Rattle.log_rows.specs.declared.Row.{Row}
+use Rattle.log_rows.proofs.RowList.{rows-written, rows-length}
+use Rattle.log_rows.proofs.Space.{room-fits, room-few}
+use Rattle.log_language.specs.Language.{Opening, Belongs}
+use Rattle.log_language.specs.RowSteps.{State, opened, may, leave, endState}
+use Rattle.log_language.proofs.Core.{empty-belongs, one-more-may, end-snoc}
+use Rattle.log_reader.specs.Replay.{replayed}
+use Rattle.log_reader.specs.Reader.{endOf, openedAs, openingOf}
+use Rattle.log_reader.proofs.StateOf.{stateOf}
+use Rattle.log_reader.proofs.StageRows.{row-agrees}
+use Rattle.log_reader.proofs.RowsKeep.{row-keeps, row-sized}
+use Rattle.log_reader.proofs.Rightly.{opened-state}
+use Rattle.history.specs.Histories.{Bench, bench, called, numberOf, Start, History, opens, calls, rowsOf, openedQueue, opening}
+use Rattle.history.proofs.Written.{Put}
+use Rattle.history.proofs.RowOfCall.{Replays}
+use Rattle.history.proofs.Steps.{Wrote, Step, step}
+
+end-more : (q : Queue) (rs : List Row) (r : Row) → endOf q (rs ++ (r ∷ [])) ≡ replayed (endOf q rs) r .queue
+end-more q [] r = refl
+end-more q (x ∷ rs) r = end-more (replayed q x .queue) rs r
+
+-- one row more behind the used ones: the rows that are then written
+pub rows-after : (b : Bench) (r : Row) → Put (b .log) (b .used) → (p : Queue) → rowsOf (bench p (b .used + 1) (appended (b .log) (b .used) r)) ≡ rowsOf b ++ (r ∷ [])
+unfolding appended
+rows-after b r put p = ap (λ (l : List ℕ). rows (take ((b .used + 1) * 5) l)) (hit _ (put .room)) ∙ rows-written (b .log) (b .used) r (room-fits (length (b .log)) (b .used) (put .room))
+
+-- where a history stands
+pub record Stands (s : Start) (b : Bench) : Type 0 where
+  pub sound : wellFormed (b .queue) ≡ true
+  pub sized : Sized (b .queue)
+  pub within : b .used * 5 ≤ length (b .log)
+  pub spoken : Belongs (opening s) (rowsOf b)
+  pub counted : length (rowsOf b) ≡ b .used
+  pub ended : b .queue ≡ endOf (openedQueue s) (rowsOf b)
+  pub state : stateOf (b .queue) ≡ endState (opened (opening s)) (rowsOf b)
+  -- the memory behind the rows is as it was
+  pub long : length (b .log) ≡ length (s .memory)
+  pub behind : drop (b .used * 5) (b .log) ≡ drop (b .used * 5) (s .memory)
+
+opened-sound : (k : Kind) (d f : ℕ) (bs : List ℕ) → wellFormed (openedAs k d f bs .queue) ≡ true
+opened-sound Scope d f bs = scope-well-formed d f
+opened-sound Iterator d f bs = opening-well-formed d f bs
+
+opened-sized : (k : Kind) (d f : ℕ) (bs : List ℕ) → Sized (openedAs k d f bs .queue)
+opened-sized Scope d f bs = scope-sized d f
+opened-sized Iterator d f bs = opening-sized d f bs
+
+starts : (s : Start) → openedAs (s .kind) (s .domain) (s .first) (s .bindings) .answer ≡ Opened.Open → Stands s (bench (openedQueue s) 0 (s .memory))
+unfolding rows
+starts s e = record {
+  sound = opened-sound (s .kind) (s .domain) (s .first) (s .bindings);
+  sized = opened-sized (s .kind) (s .domain) (s .first) (s .bindings);
+  within = omega arith;
+  spoken = empty-belongs (opening s);
+  counted = refl;
+  ended = refl;
+  state = opened-state (s .kind) (s .domain) (s .first) (s .bindings) e;
+  long = refl;
+  behind = refl;
+}
+
+-- ---- one row more
+module _ (s : Start) (b : Bench) (c : Call) (i : Stands s b) (w : Wrote b c) where
+  abbrev now : Bench
+  now = bench (after (b .queue) c) (b .used + 1) (appended (b .log) (b .used) (w .row))
+
+  log-is : appended (b .log) (b .used) (w .row) ≡ written (b .log) (b .used) (flat (w .row))
+  unfolding appended
+  log-is = hit _ (w .put .room)
+
+  fits-in : b .used * 5 + 5 ≤ length (b .log)
+  fits-in = room-fits (length (b .log)) (b .used) (w .put .room)
+
+  rows-are : rowsOf now ≡ rowsOf b ++ (w .row ∷ [])
+  rows-are = rows-after b (w .row) (w .put) (after (b .queue) c)
+
+  head-long : length (take (b .used * 5) (b .log) ++ flat (w .row)) ≡ b .used * 5 + 5
+  head-long = let t : length (take (b .used * 5) (b .log)) ≡ b .used * 5 = length-take-le (b .used * 5) (b .log) (i .within) in simp length-append (omega arith)
+
+  behind-is : drop (b .used * 5 + 5) (written (b .log) (b .used) (flat (w .row))) ≡ drop (b .used * 5 + 5) (b .log)
+  unfolding written
+  behind-is = drop-at (take (b .used * 5) (b .log) ++ flat (w .row)) (drop (b .used * 5 + 5) (b .log)) (b .used * 5 + 5) head-long
+
+  long-is : length (written (b .log) (b .used) (flat (w .row))) ≡ length (b .log)
+  unfolding written
+  long-is =
+      let t : length (take (b .used * 5) (b .log)) ≡ b .used * 5 = length-take-le (b .used * 5) (b .log) (i .within) in
+      let f : b .used * 5 + 5 ≤ length (b .log) = fits-in in
+      simp (length-append, length-drop) (omega arith)
+
+  abbrev taken : Queue
+  taken = replayed (b .queue) (w .row) .queue
+
+  more : Stands s now
+  more =
+      let a = row-agrees (b .queue) (i .sound) (i .sized) (w .row) in
+      let few : b .used < 4096 = room-few (length (b .log)) (b .used) (w .put .room) in
+      let five : (b .used + 1) * 5 ≡ b .used * 5 + 5 = omega arith in
+      let k : length (rowsOf b) ≡ b .used = i .counted in
+      let f : b .used * 5 + 5 ≤ length (b .log) = fits-in in
+      let l : length (appended (b .log) (b .used) (w .row)) ≡ length (b .log) = ap length log-is ∙ long-is in
+      let m : may (endState (opened (opening s)) (rowsOf b)) (w .row) ≡ true = sym (ap (λ (x : State). may x (w .row)) (i .state)) ∙ (sym (a .fits) ∙ w .replays .fits) in
+      record {
+        sound = sym (ap wellFormed (w .replays .leaves)) ∙ row-keeps (b .queue) (i .sound) (w .row);
+        sized = subst (λ (p : Queue). Sized p) (w .replays .leaves) (row-sized (b .queue) (i .sized) (w .row));
+        within = omega arith;
+        spoken = rw rows-are (one-more-may (opening s) (rowsOf b) (w .row) .1 (i .spoken, omega arith, m));
+        counted = ap length rows-are ∙ (length-append (rowsOf b) (w .row ∷ []) ∙ ap (λ (n : ℕ). n + 1) k);
+        ended = sym (w .replays .leaves) ∙ (ap (λ (p : Queue). replayed p (w .row) .queue) (i .ended) ∙ (sym (end-more (openedQueue s) (rowsOf b) (w .row)) ∙ ap (endOf (openedQueue s)) (sym rows-are)));
+        state = sym (ap stateOf (w .replays .leaves)) ∙ (a .leaves (w .replays .fits) ∙ (ap (λ (x : State). leave x (w .row)) (i .state) ∙ (sym (end-snoc (opened (opening s)) (rowsOf b) (w .row)) ∙ ap (endState (opened (opening s))) (sym rows-are))));
+        long = l ∙ i .long;
+        behind = ap (λ (n : ℕ). drop n (appended (b .log) (b .used) (w .row))) five ∙ (ap (drop (b .used * 5 + 5)) log-is ∙ (behind-is ∙ (sym (drop-drop 5 (b .used * 5) (b .log)) ∙ (ap (drop 5) (i .behind) ∙ (drop-drop 5 (b .used * 5) (s .memory) ∙ ap (λ (n : ℕ). drop n (s .memory)) (sym five))))));
+      }
+
+pub stands : (s : Start) (b : Bench) → History s b → Stands s b
+stands s _ (opens e) = starts s e
+stands s _ (calls {b} h c a) = ⊎-elim (λ e. subst (λ (x : Bench). Stands s x) (sym e) (stands s b h)) (λ w. subst (λ (x : Bench). Stands s x) (sym (w .left)) (more s b c (stands s b h) w)) (step b (stands s b h .sound) c a)
+
+-- every log that a history leaves belongs to the language of its opening
+pub history-belongs : (s : Start) (b : Bench) → History s b → Belongs (opening s) (rowsOf b)
+history-belongs s b h = stands s b h .spoken
+
+-- the record at the end of a history is the reader's end state for its log
+pub history-ends : (s : Start) (b : Bench) → History s b → b .queue ≡ endOf (openedQueue s) (rowsOf b)
+history-ends s b h = stands s b h .ended
