@@ -4,3 +4,5 @@ pub mod Steps
 pub mod Spoken
 pub mod CallOfRow
 pub mod Demand
+pub mod Accepts
+pub mod Exhibit

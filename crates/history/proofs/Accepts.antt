@@ -1,0 +1,83 @@
+-- The reader accepts exactly the logs that some history leaves, and finds the record that it leaves
+use Prim.Native.Nat.{ℕ, zero, suc, _*_, _/_, _≤_}
+use mathlib.Core.Path.{_≡_, refl, sym, ap, _∙_, subst}
+use mathlib.Core.Logic.{_↔_}
+use mathlib.Core.List.{List, [], _∷_, _++_}
+use native.Mathlib.Omega.{arith}
+use lib.ListN.{length, take, drop-of-length-le}
+use lib.Seq.{length-take-le}
+use Rattle.queue_record.specs.Refusals.{done}
+use Rattle.queue_record.specs.declared.record.Kind.{Kind}
+use Rattle.queue_record.specs.declared.record.Queue.{Queue}
+use Rattle.queue_record.specs.declared.openings.Opened.{Opened}
+use Rattle.log_rows.specs.Rows.{rows, part, flat}
+use Rattle.log_rows.specs.declared.Row.{Row}
+use Rattle.log_rows.proofs.RowList.{rows-length}
+use Rattle.log_language.specs.FirstBad.{WordsBelong}
+use Rattle.log_language.proofs.FirstBad.{bad-place-stop, words-belong}
+use Rattle.log_reader.specs.Reader.{endOf, openedAs, openingOf, readSays, ReadsAs, refusedOpening, badAt, goodLog}
+use Rattle.log_reader.specs.declared.reading.Reading.{Reading}
+use Rattle.history.specs.Histories.{Bench, Start, History, opens, calls, wordsOf, rowsOf, openedQueue, LeftBy}
+use Rattle.history.proofs.Spoken.{Stands, stands, history-belongs, history-ends}
+use Rattle.history.proofs.Demand.{Leaves, language-spoken}
+
+-- the words of rows
+abbrev allFlat : List Row → List ℕ
+allFlat [] = []
+allFlat (r ∷ rs) = flat r ++ allFlat rs
+
+-- whole rows are their words
+words-again : (k : ℕ) (a : List ℕ) → length a ≡ k * 5 → allFlat (rows a) ≡ a
+unfolding rows
+words-again k [] h = refl
+words-again k (x ∷ []) h = absurd (omega arith)
+words-again k (x ∷ y ∷ []) h = absurd (omega arith)
+words-again k (x ∷ y ∷ z ∷ []) h = absurd (omega arith)
+words-again k (x ∷ y ∷ z ∷ u ∷ []) h = absurd (omega arith)
+words-again zero (x ∷ y ∷ z ∷ u ∷ v ∷ a) h = absurd (omega arith)
+words-again (suc k) (x ∷ y ∷ z ∷ u ∷ v ∷ a) h = rw (words-again k a (omega arith))
+
+same-words : (k : ℕ) (a b : List ℕ) → length a ≡ k * 5 → length b ≡ k * 5 → rows a ≡ rows b → a ≡ b
+same-words k a b la lb e = sym (words-again k a la) ∙ (ap allFlat e ∙ words-again k b lb)
+
+-- no history starts from a refused opening
+unrefused : (s : Start) (b : Bench) → History s b → openedAs (s .kind) (s .domain) (s .first) (s .bindings) .answer ≡ Opened.Open
+unrefused s _ (opens e) = e
+unrefused s _ (calls {b} h c a) = unrefused s b h
+
+module _ (kind : Kind) (domain first : ℕ) (bindings log : List ℕ) where
+  abbrev from : List ℕ → Start
+  from memory = record { kind = kind; domain = domain; first = first; bindings = bindings; memory = memory }
+
+  -- a log that belongs is left by a history in memory of its own length
+  left : openedAs kind domain first bindings .answer ≡ Opened.Open → WordsBelong (openingOf kind first) log → LeftBy kind domain first bindings log (endOf (openedAs kind domain first bindings .queue) (rows log))
+  left o w =
+      let n : length (rows log) ≡ length log / 5 = rows-length log in
+      let whole = words-belong (openingOf kind first) log .0 w in
+      let l : Leaves (from log) (rows log) = language-spoken (from log) o (rows log) (w .rowsBelong) (omega arith) in
+      let i : Stands (from log) (l .end) = stands (from log) (l .end) (l .history) in
+      let t : length (wordsOf (l .end)) ≡ l .end .used * 5 = length-take-le (l .end .used * 5) (l .end .log) (i .within) in
+      let u : l .end .used ≡ length (rows log) = l .used in
+      record {
+        memory = log;
+        end = l .end;
+        history = l .history;
+        words = same-words (l .end .used) (wordsOf (l .end)) log t (omega arith) (l .wrote);
+        leaves = history-ends (from log) (l .end) (l .history) ∙ ap (endOf (openedQueue (from log))) (l .wrote);
+      }
+
+  -- what a history leaves belongs
+  spoken : (q : Queue) → LeftBy kind domain first bindings log q → WordsBelong (openingOf kind first) log
+  spoken q l =
+      let s : Start = from (l .memory) in
+      let i : Stands s (l .end) = stands s (l .end) (l .history) in
+      subst (λ (x : List ℕ). WordsBelong (openingOf kind first) x) (l .words) (record { whole = no-part (l .end) (i .within); rowsBelong = history-belongs s (l .end) (l .history) })
+    where
+      no-part : (b : Bench) → b .used * 5 ≤ length (b .log) → part (wordsOf b) ≡ []
+      no-part b h = let t : length (wordsOf b) ≡ b .used * 5 = length-take-le (b .used * 5) (b .log) h in drop-of-length-le (wordsOf b) {i = length (wordsOf b) / 5 * 5} (omega arith)
+
+  -- the reader accepts exactly the logs that some history leaves, with the record that it leaves
+  pub reader-histories : (r : Reading) → ReadsAs kind domain first bindings log r → (readSays (r .answer) .0 ≡ done) ↔ LeftBy kind domain first bindings log (r .queue)
+  reader-histories r (refusedOpening e) = (λ z. absurd (omega arith), λ l. let o = unrefused (from (l .memory)) (l .end) (l .history) in let z : _≡_ {A = ℕ} 0 1 = cc in absurd (omega arith))
+  reader-histories r (badAt place o b) = (λ z. absurd (omega arith), λ l. absurd (bad-place-stop (openingOf kind first) log place .0 b .1 (spoken _ l)))
+  reader-histories r (goodLog o w) = (λ z. left o w, λ l. refl)
