@@ -4,7 +4,7 @@ use mathlib.Core.Path.{_≡_, refl, sym, ap, _∙_, subst}
 use mathlib.Core.Logic.{_↔_}
 use mathlib.Core.List.{List, [], _∷_, _++_}
 use native.Mathlib.Omega.{arith}
-use lib.ListN.{length, take, drop-of-length-le}
+use lib.ListN.{length, drop-of-length-le}
 use lib.Seq.{length-take-le}
 use Rattle.queue_record.specs.Refusals.{done}
 use Rattle.queue_record.specs.declared.record.Kind.{Kind}
@@ -17,7 +17,7 @@ use Rattle.log_language.specs.FirstBad.{WordsBelong}
 use Rattle.log_language.proofs.FirstBad.{bad-place-stop, words-belong}
 use Rattle.log_reader.specs.Reader.{endOf, openedAs, openingOf, readSays, ReadsAs, refusedOpening, badAt, goodLog}
 use Rattle.log_reader.specs.declared.reading.Reading.{Reading}
-use Rattle.history.specs.Histories.{Bench, Start, History, opens, calls, wordsOf, rowsOf, openedQueue, LeftBy}
+use Rattle.history.specs.Histories.{Bench, Start, History, opens, calls, wordsOf, openedQueue, LeftBy}
 use Rattle.history.proofs.Spoken.{Stands, stands, history-belongs, history-ends}
 use Rattle.history.proofs.Demand.{Leaves, language-spoken}
 

@@ -1,10 +1,8 @@
 -- A row that the reader replays is written by some recorded call, where there is room
 use Prim.Native.Nat.{ℕ, zero, suc, _+_}
 use mathlib.Core.Path.{_≡_, refl, sym, ap, _∙_}
-use mathlib.Core.Bool.{Bool, true, false, not, _&&_}
-use mathlib.Core.List.{List}
+use mathlib.Core.Bool.{true, _&&_}
 use native.Mathlib.Omega.{arith}
-use lib.ListN.{length}
 use Rattle.stage.specs.Phases.{next, differs}
 use Rattle.stage.specs.declared.phases.Event.{Event}
 use Rattle.stage.specs.declared.phases.Event.the-variants.{Admit, End, Cancel}
@@ -18,7 +16,6 @@ use Rattle.queue_steps.specs.declared.births.Registered.{Registered}
 use Rattle.queue_steps.specs.declared.attempts.Popped.{Popped}
 use Rattle.queue_steps.specs.declared.attempts.Completed.{Completed}
 use Rattle.queue_steps.specs.declared.attempts.Retried.{Retried}
-use Rattle.queue_questions.specs.Questions.{yesOrNo}
 use Rattle.queue_questions.specs.declared.questions.Told.{Told}
 use Rattle.queue_stages.specs.Stages.{admitted, ended, cancelledBy}
 use Rattle.queue_stages.specs.declared.stages.Cancelled.{Cancelled}

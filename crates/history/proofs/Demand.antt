@@ -1,30 +1,28 @@
 -- Demand 3: recorded histories and the language are the same set, and the reader's end state is the one state that they leave
-use Prim.Native.Nat.{ℕ, zero, suc, _+_, _*_, _<_, _≤_}
+use Prim.Native.Nat.{ℕ, _+_, _*_, _<_, _≤_}
 use mathlib.Core.Path.{_≡_, refl, sym, ap, _∙_, subst}
 use mathlib.Core.Logic.{_↔_}
 use mathlib.Core.Bool.{true}
 use mathlib.Core.List.{List, [], _∷_, _++_}
 use native.Mathlib.Omega.{arith}
 use borrow.Author.Tests.{le-leb}
-use lib.ListN.{length, take, drop, length-append}
+use lib.ListN.{length, drop, length-append}
 use Rattle.queue_record.specs.declared.record.Queue.{Queue}
 use Rattle.queue_record.specs.declared.openings.Opened.{Opened}
 use Rattle.log_rows.specs.Rows.{rows}
 use Rattle.cleanup_queue.specs.Runs.{after}
-use Rattle.log_rows.specs.Appending.{rowsFit, appended}
+use Rattle.log_rows.specs.Appending.{rowsFit}
 use Rattle.log_rows.specs.declared.Row.{Row}
 use Rattle.log_rows.proofs.Space.{room-there}
-use Rattle.log_language.specs.Language.{Opening, Belongs}
+use Rattle.log_language.specs.Language.{Belongs}
 use Rattle.log_language.specs.RowSteps.{State, opened, may, endState}
 use Rattle.log_language.proofs.Core.{one-more-may}
 use Rattle.log_language.proofs.Lists.{snoc-ind}
-use Rattle.log_language.specs.FirstBad.{WordsBelong}
 use Rattle.log_reader.specs.Replay.{replayed}
 use Rattle.log_reader.specs.Reader.{endOf, openedAs}
 use Rattle.log_reader.proofs.StageRows.{row-agrees}
 use Rattle.history.specs.Histories.{Bench, bench, called, Start, History, opens, calls, rowsOf, openedQueue, opening}
 use Rattle.history.proofs.Written.{Put}
-use Rattle.history.proofs.Steps.{Wrote}
 use Rattle.history.proofs.CallOfRow.{Writes, writes}
 use Rattle.history.proofs.Spoken.{Stands, stands, history-belongs, history-ends, rows-after}
 

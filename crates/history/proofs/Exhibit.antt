@@ -1,6 +1,6 @@
 -- Histories there are: one whose log has a row of each of the eight kinds
 use Prim.Native.Nat.{ℕ}
-use mathlib.Core.Path.{_≡_, refl}
+use mathlib.Core.Path.{refl}
 use mathlib.Core.List.{List, [], _∷_}
 use native.Mathlib.Omega.{arith}
 use Rattle.queue_record.specs.Openings.{iteratorOpened}

@@ -6,3 +6,4 @@ pub mod CallOfRow
 pub mod Demand
 pub mod Accepts
 pub mod Exhibit
+pub mod Laws

@@ -1,16 +1,13 @@
 -- The row that a changing call writes is replayed to what the call leaves
 use Prim.Native.Nat.{ℕ}
 use mathlib.Core.Path.{_≡_, refl, sym, ap, _∙_}
-use mathlib.Core.Bool.{Bool, true, false, not, _&&_}
-use native.Mathlib.Omega.{arith}
+use mathlib.Core.Bool.{Bool, true, false, not}
 use borrow.Author.Tests.{eq-eqb}
-use lib.Dec.{eqb}
 use Rattle.stage.specs.Phases.{next, phaseNumber, differs}
 use Rattle.stage.specs.declared.phases.Phase.{Phase}
 use Rattle.stage.specs.declared.phases.Event.{Event}
 use Rattle.stage.specs.declared.phases.Event.the-variants.{Admit, End, Cancel}
 use Rattle.stage.proofs.Ways.{miss, pass, clash}
-use Rattle.queue_record.specs.Record.{withPhase}
 use Rattle.queue_record.specs.WellFormed.{wellFormed}
 use Rattle.queue_record.specs.declared.record.Ticket.{Ticket}
 use Rattle.queue_record.specs.declared.record.Queue.{Queue}
@@ -18,21 +15,20 @@ use Rattle.queue_record.proofs.Fit.{selected-domain}
 use Rattle.queue_steps.specs.Births.{registered, landed}
 use Rattle.queue_steps.specs.Attempts.{popped, completed, retried}
 use Rattle.queue_steps.specs.declared.births.Registered.{Registered}
-use Rattle.queue_steps.specs.declared.births.RegisterAnswer.{RegisterAnswer}
 use Rattle.queue_steps.specs.declared.attempts.Popped.{Popped}
 use Rattle.queue_steps.specs.declared.attempts.CompleteAnswer.{CompleteAnswer}
 use Rattle.queue_steps.specs.declared.attempts.Retried.{Retried}
 use Rattle.queue_steps.proofs.Out.{same-parts}
 use Rattle.queue_stages.specs.Stages.{admitted}
 use Rattle.queue_stages.specs.declared.stages.StageAnswer.{StageAnswer}
-use Rattle.cleanup_queue.specs.Runs.{Call, register, land, pop, complete, retry, admit, end, cancel, after}
+use Rattle.cleanup_queue.specs.Runs.{register, land, pop, complete, retry, admit, end, cancel, after}
 use Rattle.cleanup_queue.proofs.ByCase.{complete-by}
 use Rattle.log_rows.specs.Rows.{rowOf}
 use Rattle.log_rows.specs.declared.Row.{Row}
 use Rattle.log_calls.specs.Births.{isBirth, birthRow}
 use Rattle.log_calls.specs.Attempts.{isWork, popRow, isSettledAnswer, isRenewed, retryRow}
 use Rattle.log_calls.specs.Stages.{moved}
-use Rattle.log_reader.specs.Replay.{sameRow, stepped, birthFits, replayedBirth, popFits, completeFits, rowTicket, retryFits, replayedStage, replayed}
+use Rattle.log_reader.specs.Replay.{sameRow, stepped, birthFits, popFits, completeFits, rowTicket, retryFits, replayedStage, replayed}
 use Rattle.log_reader.specs.declared.replay.Replayed.{Replayed}
 use Rattle.log_reader.proofs.ByKind.{same-columns, at0, at1, at2, at3, at4, at5, at6, at7}
 use Rattle.log_reader.proofs.RowsKeep.{admit-moves, end-moves, cancel-moves}

@@ -1,8 +1,8 @@
 -- Every history's rows belong to the language of its opening, and its record is what the reader's end state says
-use Prim.Native.Nat.{ℕ, zero, suc, _+_, _*_, _/_, _<_, _≤_}
+use Prim.Native.Nat.{ℕ, _+_, _*_, _<_, _≤_}
 use mathlib.Core.Path.{_≡_, refl, sym, ap, _∙_, subst}
-use mathlib.Core.Logic.{_⊎_, inl, inr, ⊎-elim}
-use mathlib.Core.Bool.{Bool, true, false}
+use mathlib.Core.Logic.{⊎-elim}
+use mathlib.Core.Bool.{true}
 use mathlib.Core.List.{List, [], _∷_, _++_}
 use native.Mathlib.Omega.{arith}
 use lib.ListN.{length, take, drop, length-append, length-drop}
@@ -17,23 +17,22 @@ use Rattle.queue_record.specs.declared.openings.Opened.{Opened}
 use Rattle.queue_record.proofs.Opened.{scope-well-formed, scope-sized, opening-well-formed, opening-sized}
 use Rattle.cleanup_queue.specs.Runs.{Call, after}
 use Rattle.log_rows.specs.Rows.{rows, flat, written}
-use Rattle.log_rows.specs.Appending.{hasRoom, appended}
+use Rattle.log_rows.specs.Appending.{appended}
 use Rattle.log_rows.specs.declared.Row.{Row}
-use Rattle.log_rows.proofs.RowList.{rows-written, rows-length}
+use Rattle.log_rows.proofs.RowList.{rows-written}
 use Rattle.log_rows.proofs.Space.{room-fits, room-few}
-use Rattle.log_language.specs.Language.{Opening, Belongs}
+use Rattle.log_language.specs.Language.{Belongs}
 use Rattle.log_language.specs.RowSteps.{State, opened, may, leave, endState}
 use Rattle.log_language.proofs.Core.{empty-belongs, one-more-may, end-snoc}
 use Rattle.log_reader.specs.Replay.{replayed}
-use Rattle.log_reader.specs.Reader.{endOf, openedAs, openingOf}
+use Rattle.log_reader.specs.Reader.{endOf, openedAs}
 use Rattle.log_reader.proofs.StateOf.{stateOf}
 use Rattle.log_reader.proofs.StageRows.{row-agrees}
 use Rattle.log_reader.proofs.RowsKeep.{row-keeps, row-sized}
 use Rattle.log_reader.proofs.Rightly.{opened-state}
-use Rattle.history.specs.Histories.{Bench, bench, called, numberOf, Start, History, opens, calls, rowsOf, openedQueue, opening}
+use Rattle.history.specs.Histories.{Bench, bench, Start, History, opens, calls, rowsOf, openedQueue, opening}
 use Rattle.history.proofs.Written.{Put}
-use Rattle.history.proofs.RowOfCall.{Replays}
-use Rattle.history.proofs.Steps.{Wrote, Step, step}
+use Rattle.history.proofs.Steps.{Wrote, step}
 
 end-more : (q : Queue) (rs : List Row) (r : Row) → endOf q (rs ++ (r ∷ [])) ≡ replayed (endOf q rs) r .queue
 end-more q [] r = refl

@@ -1,34 +1,17 @@
 -- What an accepted recorded call leaves: nothing, or one row more that the reader replays to the same record
-use Prim.Native.Nat.{ℕ, _+_, _*_, _<_, _≤_}
-use mathlib.Core.Path.{_≡_, refl, sym, ap, _∙_}
-use mathlib.Core.Logic.{_⊎_, inl, inr, ⊎-elim}
-use mathlib.Core.Bool.{Bool, true, false, not, _&&_}
-use mathlib.Core.List.{List, [], _∷_, _++_}
-use native.Mathlib.Omega.{arith}
-use borrow.Author.Tests.{eq-eqb, not-true, not-false}
-use lib.Dec.{eqb}
+use Prim.Native.Nat.{ℕ, _+_}
+use mathlib.Core.Path.{_≡_, refl, ap, _∙_}
+use mathlib.Core.Logic.{_⊎_, inl, inr}
+use mathlib.Core.Bool.{Bool, true, false, not}
+use mathlib.Core.List.{List}
 use lib.ListN.{length}
 use Rattle.stage.specs.Choice.{if_then_else_}
-use Rattle.stage.specs.Phases.{next, differs}
-use Rattle.stage.specs.declared.phases.Event.{Event}
-use Rattle.stage.specs.declared.phases.Event.the-variants.{Admit, End, Cancel}
-use Rattle.stage.proofs.Ways.{hit, miss, pass, if-by, clash}
-use Rattle.queue_record.specs.Record.{withPhase}
-use Rattle.queue_record.specs.Refusals.{done, broken, logFull}
-use Rattle.queue_record.specs.WellFormed.{wellFormed}
-use Rattle.queue_record.specs.declared.record.Ticket.{Ticket}
+use Rattle.stage.proofs.Ways.{hit, miss}
 use Rattle.queue_record.specs.declared.record.Queue.{Queue}
-use Rattle.queue_steps.specs.Births.{registered, landed}
-use Rattle.queue_steps.specs.Attempts.{popped, completed, retried}
-use Rattle.queue_steps.specs.declared.births.Registered.{Registered}
-use Rattle.queue_steps.specs.declared.births.RegisterAnswer.{RegisterAnswer}
-use Rattle.log_rows.specs.Rows.{rowOf}
 use Rattle.log_rows.specs.Appending.{rowsFit, hasRoom, appendedUsed, appended}
 use Rattle.log_rows.specs.declared.Row.{Row}
-use Rattle.log_rows.specs.declared.Appended.{Appended}
 use Rattle.log_rows.specs.declared.Appended.the-variants.{Full, Used}
 use Rattle.log_calls.specs.Recording.{putBy, recordedBy, loggedBy}
-use Rattle.history.specs.Histories.{Bench, bench}
 
 -- ---- recording, whichever the call
 -- what is known where a row went in
