@@ -8,16 +8,16 @@ use lib.ListN.{length, drop-of-length-le}
 use lib.Seq.{length-take-le}
 use Rattle.queue_record.specs.Refusals.{done}
 use Rattle.queue_record.specs.declared.record.Kind.{Kind}
-use Rattle.queue_record.specs.declared.record.Queue.{Queue}
 use Rattle.queue_record.specs.declared.openings.Opened.{Opened}
-use Rattle.log_rows.specs.Rows.{rows, part, flat}
+use Rattle.log_rows.specs.Rows.{rows, flat}
 use Rattle.log_rows.specs.declared.Row.{Row}
 use Rattle.log_rows.proofs.RowList.{rows-length}
 use Rattle.log_language.specs.FirstBad.{WordsBelong}
 use Rattle.log_language.proofs.FirstBad.{bad-place-stop, words-belong}
-use Rattle.log_reader.specs.Reader.{endOf, openedAs, openingOf, readSays, ReadsAs, refusedOpening, badAt, goodLog}
+use Rattle.log_reader.specs.Reader.{endOf, openedAs, openingOf, reading, readSays, ReadsAs, refusedOpening, badAt, goodLog}
+use Rattle.log_reader.specs.declared.reading.Read.{Read}
 use Rattle.log_reader.specs.declared.reading.Reading.{Reading}
-use Rattle.history.specs.Histories.{Bench, Start, History, opens, calls, wordsOf, openedQueue, LeftBy}
+use Rattle.history.specs.Histories.{Bench, Start, History, opens, calls, wordsOf, rowsOf, opening, openedQueue, LeftBy}
 use Rattle.history.proofs.Spoken.{Stands, stands, history-belongs, history-ends}
 use Rattle.history.proofs.Demand.{Leaves, language-spoken}
 
@@ -45,12 +45,25 @@ unrefused : (s : Start) (b : Bench) → History s b → openedAs (s .kind) (s .d
 unrefused s _ (opens e) = e
 unrefused s _ (calls {b} h c a) = unrefused s b h
 
+-- the words that a history leaves are whole rows, and belong
+history-words : (s : Start) (b : Bench) → History s b → WordsBelong (opening s) (wordsOf b)
+history-words s b h =
+    let w : b .used * 5 ≤ length (b .log) = stands s b h .within in
+    let t : length (wordsOf b) ≡ b .used * 5 = length-take-le (b .used * 5) (b .log) w in
+    record { whole = drop-of-length-le (wordsOf b) {i = length (wordsOf b) / 5 * 5} (omega arith); rowsBelong = history-belongs s b h }
+
+-- of what a history leaves the reader says: good, as many rows as were written, and the record in the bench's hands
+pub history-read : (s : Start) (b : Bench) → History s b → (r : Reading) → ReadsAs (s .kind) (s .domain) (s .first) (s .bindings) (wordsOf b) r → r ≡ reading (Read.Good (b .used)) (b .queue)
+history-read s b h r (refusedOpening e) = let o = unrefused s b h in let z : _≡_ {A = ℕ} 0 1 = cc in absurd (omega arith)
+history-read s b h r (badAt place o bad) = absurd (bad-place-stop (opening s) (wordsOf b) place .0 bad .1 (history-words s b h))
+history-read s b h r (goodLog o w) = ap (λ (n : ℕ). reading (Read.Good n) (endOf (openedQueue s) (rowsOf b))) (stands s b h .counted) ∙ ap (reading (Read.Good (b .used))) (sym (history-ends s b h))
+
 module _ (kind : Kind) (domain first : ℕ) (bindings log : List ℕ) where
   abbrev from : List ℕ → Start
   from memory = record { kind = kind; domain = domain; first = first; bindings = bindings; memory = memory }
 
   -- a log that belongs is left by a history in memory of its own length
-  left : openedAs kind domain first bindings .answer ≡ Opened.Open → WordsBelong (openingOf kind first) log → LeftBy kind domain first bindings log (endOf (openedAs kind domain first bindings .queue) (rows log))
+  left : openedAs kind domain first bindings .answer ≡ Opened.Open → WordsBelong (openingOf kind first) log → LeftBy kind domain first bindings log
   left o w =
       let n : length (rows log) ≡ length log / 5 = rows-length log in
       let whole = words-belong (openingOf kind first) log .0 w in
@@ -58,26 +71,16 @@ module _ (kind : Kind) (domain first : ℕ) (bindings log : List ℕ) where
       let i : Stands (from log) (l .end) = stands (from log) (l .end) (l .history) in
       let t : length (wordsOf (l .end)) ≡ l .end .used * 5 = length-take-le (l .end .used * 5) (l .end .log) (i .within) in
       let u : l .end .used ≡ length (rows log) = l .used in
-      record {
-        memory = log;
-        end = l .end;
-        history = l .history;
-        words = same-words (l .end .used) (wordsOf (l .end)) log t (omega arith) (l .wrote);
-        leaves = history-ends (from log) (l .end) (l .history) ∙ ap (endOf (openedQueue (from log))) (l .wrote);
-      }
+      record { memory = log; end = l .end; history = l .history; words = same-words (l .end .used) (wordsOf (l .end)) log t (omega arith) (l .wrote) }
 
-  -- what a history leaves belongs
-  spoken : (q : Queue) → LeftBy kind domain first bindings log q → WordsBelong (openingOf kind first) log
-  spoken q l =
-      let s : Start = from (l .memory) in
-      let i : Stands s (l .end) = stands s (l .end) (l .history) in
-      subst (λ (x : List ℕ). WordsBelong (openingOf kind first) x) (l .words) (record { whole = no-part (l .end) (i .within); rowsBelong = history-belongs s (l .end) (l .history) })
+  good : (r : Reading) → ReadsAs kind domain first bindings log r → readSays (r .answer) .0 ≡ done → LeftBy kind domain first bindings log
+  good r (refusedOpening e) z = absurd (omega arith)
+  good r (badAt place o b) z = absurd (omega arith)
+  good r (goodLog o w) z = left o w
+
+  -- the reader accepts a log exactly if some history of that opening leaves it; history-read says with which record
+  pub reader-histories : (r : Reading) → ReadsAs kind domain first bindings log r → (readSays (r .answer) .0 ≡ done) ↔ LeftBy kind domain first bindings log
+  reader-histories r a = (good r a, back)
     where
-      no-part : (b : Bench) → b .used * 5 ≤ length (b .log) → part (wordsOf b) ≡ []
-      no-part b h = let t : length (wordsOf b) ≡ b .used * 5 = length-take-le (b .used * 5) (b .log) h in drop-of-length-le (wordsOf b) {i = length (wordsOf b) / 5 * 5} (omega arith)
-
-  -- the reader accepts exactly the logs that some history leaves, with the record that it leaves
-  pub reader-histories : (r : Reading) → ReadsAs kind domain first bindings log r → (readSays (r .answer) .0 ≡ done) ↔ LeftBy kind domain first bindings log (r .queue)
-  reader-histories r (refusedOpening e) = (λ z. absurd (omega arith), λ l. let o = unrefused (from (l .memory)) (l .end) (l .history) in let z : _≡_ {A = ℕ} 0 1 = cc in absurd (omega arith))
-  reader-histories r (badAt place o b) = (λ z. absurd (omega arith), λ l. absurd (bad-place-stop (openingOf kind first) log place .0 b .1 (spoken _ l)))
-  reader-histories r (goodLog o w) = (λ z. left o w, λ l. refl)
+      back : LeftBy kind domain first bindings log → readSays (r .answer) .0 ≡ done
+      back l = ap (λ (x : Reading). readSays (x .answer) .0) (history-read (from (l .memory)) (l .end) (l .history) r (subst (λ (x : List ℕ). ReadsAs kind domain first bindings x r) (sym (l .words)) a))

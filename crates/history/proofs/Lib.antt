@@ -6,4 +6,6 @@ pub mod CallOfRow
 pub mod Demand
 pub mod Accepts
 pub mod Exhibit
-pub mod Laws
+pub mod Outs
+pub mod Rising
+pub mod Lives
