@@ -5,3 +5,4 @@ pub mod Fit
 pub mod Opened
 pub mod Waiting
 pub mod Last
+pub mod WaitingCount

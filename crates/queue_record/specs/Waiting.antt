@@ -23,3 +23,11 @@ others (Of t) ks = without (t .token) ks
 
 abbrev pub waiting : Queue → List ℕ
 waiting q = others (q .selection) (occupied 0 (q .slots))
+
+-- what an occupied slot adds to the count of the waiting tokens, and what any slot adds
+abbrev pub shareOf : ℕ → Selection → ℕ
+shareOf k Free = 1
+shareOf k (Of t) = if eqb k (t .token) then 0 else 1
+
+abbrev pub share : Selection → ℕ → ℕ → ℕ
+share s k x = if eqb x 0 then 0 else shareOf k s

@@ -1,11 +1,12 @@
 // The queue record: its parts, the check that answers whether it is well formed, the openings, the search for the newest
-// waiting token, and the record with another selection or phase.
+// waiting token, how many wait, and the record with another selection or phase.
 mod check;
 mod openings;
 mod record;
 pub mod refusal;
 mod search;
 mod setters;
+mod tally;
 
 pub use check::well_formed;
 pub use openings::OpenAnswer;
@@ -20,3 +21,4 @@ pub use search::Found;
 pub use search::newest_place;
 pub use setters::move_to;
 pub use setters::select;
+pub use tally::waiting_count;

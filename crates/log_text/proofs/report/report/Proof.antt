@@ -1,0 +1,22 @@
+-- Names, six values, the last one
+use mathlib.Core.Path.{sym, ap, _∙_}
+use lib.ListN.{length}
+use Rattle.log_text.specs.Report.{names}
+use Rattle.log_text.proofs.Reported.{last-fits, reported}
+use borrow.Author.Needs.{needs}
+use Rattle.log_text.proofs.report.report.Statement.{statement}
+use Rattle.log_text.proofs.report.report.Tie as tie
+
+pub report-spec : {M : Type 1} → statement M
+unfolding names
+report-spec =
+    tie.close
+    (tie.spec
+    (λ c. search needs)
+    (λ c κs. search needs)
+    (λ c. search needs)
+    (λ c κs. search needs)
+    (λ c. search needs)
+    (λ c κs. last-fits (c .before .before .before .before .before .before .before .before .before .before .before .before .before .args .f) (c .before .before .before .before .before .before .before .before .before .before .before .before .before .args .out .now) (c .before .before .before .before .before .before .before .before .before .before .before .before .before .pre) _ _ _ _ ((c .before .before .before .before .before .before .before .before .before .put .ensures) .0) ((c .before .before .before .before .before .before .before .before .before .put .ensures) .1) ((c .before .before .before .before .put-fields .ensures) .0) ((c .before .before .before .before .put-fields .ensures) .1))
+    (λ c. search needs)
+    (λ c. reported (c .before .before .before .before .before .before .before .before .before .before .before .before .before .before .before .before .args .f) (c .before .before .before .before .before .before .before .before .before .before .before .before .before .before .before .before .args .out .now) (c .before .before .before .before .before .before .before .before .before .before .before .before .before .before .before .before .pre) _ _ _ _ ((c .before .before .before .before .before .before .before .before .before .before .before .before .put .ensures) .0) ((c .before .before .before .before .before .before .before .before .before .before .before .before .put .ensures) .1) ((c .before .before .before .before .before .before .before .put-fields .ensures) .0) ((c .before .before .before .before .before .before .before .put-fields .ensures) .1) _ _ ((c .before .before .put-number .ensures) .0) ((c .before .before .put-number .ensures) .1)))
