@@ -15,7 +15,7 @@ use Rattle.log_rows.specs.Appending.{rowsFit}
 use Rattle.log_rows.specs.declared.Row.{Row}
 use Rattle.log_rows.proofs.Space.{room-there}
 use Rattle.log_language.specs.Language.{Belongs}
-use Rattle.log_language.specs.RowSteps.{State, opened, may, endState}
+use Rattle.log_language.proofs.RowSteps.{State, opened, may, endState}
 use Rattle.log_language.proofs.Core.{one-more-may}
 use Rattle.log_language.proofs.Lists.{snoc-ind}
 use Rattle.log_reader.specs.Replay.{replayed}

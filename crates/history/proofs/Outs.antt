@@ -15,8 +15,8 @@ use Rattle.log_rows.specs.declared.Row.{Row}
 use Rattle.log_language.specs.RowKinds.{RowKind, is, sameKind, kindOf, formed}
 use Rattle.log_language.specs.RowKinds.RowKind.{register, land, pop, complete, retry, admit, end, cancel, unknown}
 use Rattle.log_language.specs.Language.{sound, Rule3, Rule4}
-use Rattle.log_language.specs.RowSteps.{State, Selected, mayPop, mayComplete, mayRetry, mayAs, leaveAs, may, leave, runs, endState, opened}
-use Rattle.log_language.specs.RowSteps.Selected.{unselected, ready, issued, failed}
+use Rattle.log_language.proofs.RowSteps.{State, Selected, mayPop, mayComplete, mayRetry, mayAs, leaveAs, may, leave, runs, endState, opened}
+use Rattle.log_language.proofs.RowSteps.Selected.{unselected, ready, issued, failed}
 use Rattle.log_language.proofs.Core.{belongs-runs}
 use Rattle.log_reader.proofs.StateOf.{selectedOf}
 use Rattle.history.specs.Histories.{Bench, Start, History, rowsOf, opening, countOf, outOf}

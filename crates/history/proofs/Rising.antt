@@ -16,8 +16,8 @@ use Rattle.log_language.specs.RowKinds.{RowKind, is, sameKind, kindOf, formed}
 use Rattle.log_language.specs.RowKinds.RowKind.{register, land, pop, complete, retry, admit, end, cancel, unknown}
 use Rattle.log_language.specs.Readings.{keep}
 use Rattle.log_language.specs.Language.{grants, attemptsFrom, attemptLimit}
-use Rattle.log_language.specs.RowSteps.{State, Selected, newest, isAt, holds, raised, mayPop, mayComplete, mayRetry, mayAs, leaveAs, may, leave, runs, opened}
-use Rattle.log_language.specs.RowSteps.Selected.{unselected, ready, issued, failed}
+use Rattle.log_language.proofs.RowSteps.{State, Selected, newest, isAt, holds, raised, mayPop, mayComplete, mayRetry, mayAs, leaveAs, may, leave, runs, opened}
+use Rattle.log_language.proofs.RowSteps.Selected.{unselected, ready, issued, failed}
 use Rattle.log_language.proofs.Core.{belongs-runs}
 use Rattle.log_reader.specs.Reader.{openingOf}
 use Rattle.history.specs.Histories.{Bench, Start, History, rowsOf, opening}
