@@ -1,7 +1,7 @@
 -- Attempts rise by 1 from the first: what holds of every history
 use Prim.Native.Nat.{ℕ, zero, suc, _+_, _<_}
 use mathlib.Core.Path.{_≡_, refl, sym, ap, _∙_}
-use mathlib.Core.Bool.{Bool, true, false, _&&_}
+use mathlib.Core.Bool.{Bool, true, false}
 use mathlib.Core.List.{List, [], _∷_}
 use native.Mathlib.Omega.{arith}
 use borrow.Author.Tests.{eqb-true}
@@ -15,9 +15,10 @@ use Rattle.log_rows.specs.declared.Row.{Row}
 use Rattle.log_language.specs.RowKinds.{RowKind, is, sameKind, kindOf, formed}
 use Rattle.log_language.specs.RowKinds.RowKind.{register, land, pop, complete, retry, admit, end, cancel, unknown}
 use Rattle.log_language.specs.Readings.{keep}
-use Rattle.log_language.specs.Language.{grants, attemptsFrom, attemptLimit}
+use Rattle.log_language.specs.Language.{grants, attemptLimit}
 use Rattle.log_language.proofs.RowSteps.{State, Selected, newest, isAt, holds, raised, mayPop, mayComplete, mayRetry, mayAs, leaveAs, may, leave, runs, opened}
 use Rattle.log_language.proofs.RowSteps.Selected.{unselected, ready, issued, failed}
+use Rattle.log_language.proofs.Attempts.{attempts-at}
 use Rattle.log_language.proofs.Core.{belongs-runs}
 use Rattle.log_reader.specs.Reader.{openingOf}
 use Rattle.history.specs.Histories.{Bench, Start, History, rowsOf, opening}
@@ -25,19 +26,13 @@ use Rattle.history.proofs.Spoken.{history-belongs}
 use Rattle.history.proofs.Outs.{one}
 
 -- ---- as they are granted
--- rows that carry n, n + 1 and so on carry n + k at place k
-carries : (n : ℕ) (rs : List Row) → attemptsFrom n rs ≡ true → (k : ℕ) (d : Row) → k < length rs → getD rs k d .attempt ≡ n + k
-carries n [] h k d l = absurd (omega arith)
-carries n (r ∷ rs) h zero d l = eqb-true _ _ (and-left _ _ (and-left _ (attemptsFrom (suc n) rs) h)) ∙ omega arith
-carries n (r ∷ rs) h (suc k) d l = carries (suc n) rs (and-right (eqb (r .attempt) n && ltb n attemptLimit) _ h) k d (omega arith) ∙ omega arith
-
 first-is : (kind : Kind) (first : ℕ) → openingOf kind first .first ≡ first
 first-is Scope first = refl
 first-is Iterator first = refl
 
 -- attempts granted, to first pops and retries, rise by 1 from the first
 pub history-grants : (s : Start) (b : Bench) → History s b → (k : ℕ) (d : Row) → k < length (grants (rowsOf b)) → getD (grants (rowsOf b)) k d .attempt ≡ s .first + k
-history-grants s b h k d l = carries (opening s .first) (grants (rowsOf b)) (history-belongs s b h .attemptsInOrder .0) k d l ∙ ap (λ (n : ℕ). n + k) (first-is (s .kind) (s .first))
+history-grants s b h k d l = attempts-at (opening s .first) (grants (rowsOf b)) (history-belongs s b h .attemptsInOrder .0) k d l ∙ ap (λ (n : ℕ). n + k) (first-is (s .kind) (s .first))
 
 -- ---- as they are handed out
 -- the attempt that the next pop carries: a ready ticket's own, else the next
