@@ -9,3 +9,4 @@ pub mod Cases
 pub mod Numbers
 pub mod Upstream
 pub mod Births
+pub mod Targets

@@ -1,44 +1,24 @@
 -- The reader accepts exactly the logs that some history leaves, and finds the record that it leaves
-use Prim.Native.Nat.{ℕ, zero, suc, _*_, _/_, _≤_}
-use mathlib.Core.Path.{_≡_, refl, sym, ap, _∙_, subst}
+use Prim.Native.Nat.{ℕ, _*_, _/_, _≤_}
+use mathlib.Core.Path.{_≡_, sym, ap, _∙_, subst}
 use mathlib.Core.Logic.{_↔_}
-use mathlib.Core.List.{List, [], _∷_, _++_}
+use mathlib.Core.List.{List}
 use native.Mathlib.Omega.{arith}
 use lib.ListN.{length, drop-of-length-le}
 use lib.Seq.{length-take-le}
 use Rattle.queue_record.specs.Refusals.{done}
 use Rattle.queue_record.specs.declared.record.Kind.{Kind}
 use Rattle.queue_record.specs.declared.openings.Opened.{Opened}
-use Rattle.log_rows.specs.Rows.{rows, flat}
-use Rattle.log_rows.specs.declared.Row.{Row}
-use Rattle.log_rows.proofs.RowList.{rows-length}
+use Rattle.log_rows.specs.Rows.{rows}
+use Rattle.log_rows.proofs.RowList.{rows-length, same-words}
 use Rattle.log_language.specs.FirstBad.{WordsBelong}
 use Rattle.log_language.proofs.FirstBad.{bad-place-stop, words-belong}
 use Rattle.log_reader.specs.Reader.{endOf, openedAs, openingOf, reading, readSays, ReadsAs, refusedOpening, badAt, goodLog}
 use Rattle.log_reader.specs.declared.reading.Read.{Read}
 use Rattle.log_reader.specs.declared.reading.Reading.{Reading}
-use Rattle.history.specs.Histories.{Bench, Start, History, opens, calls, wordsOf, rowsOf, opening, openedQueue, LeftBy}
+use Rattle.history.specs.Histories.{Bench, Start, History, opens, calls, wordsOf, rowsOf, opening, openedQueue, Leaves, LeftBy}
 use Rattle.history.proofs.Spoken.{Stands, stands, history-belongs, history-ends}
-use Rattle.history.proofs.Demand.{Leaves, language-spoken}
-
--- the words of rows
-abbrev allFlat : List Row → List ℕ
-allFlat [] = []
-allFlat (r ∷ rs) = flat r ++ allFlat rs
-
--- whole rows are their words
-words-again : (k : ℕ) (a : List ℕ) → length a ≡ k * 5 → allFlat (rows a) ≡ a
-unfolding rows
-words-again k [] h = refl
-words-again k (x ∷ []) h = absurd (omega arith)
-words-again k (x ∷ y ∷ []) h = absurd (omega arith)
-words-again k (x ∷ y ∷ z ∷ []) h = absurd (omega arith)
-words-again k (x ∷ y ∷ z ∷ u ∷ []) h = absurd (omega arith)
-words-again zero (x ∷ y ∷ z ∷ u ∷ v ∷ a) h = absurd (omega arith)
-words-again (suc k) (x ∷ y ∷ z ∷ u ∷ v ∷ a) h = rw (words-again k a (omega arith))
-
-same-words : (k : ℕ) (a b : List ℕ) → length a ≡ k * 5 → length b ≡ k * 5 → rows a ≡ rows b → a ≡ b
-same-words k a b la lb e = sym (words-again k a la) ∙ (ap allFlat e ∙ words-again k b lb)
+use Rattle.history.proofs.Demand.{language-spoken}
 
 -- no history starts from a refused opening
 unrefused : (s : Start) (b : Bench) → History s b → openedAs (s .kind) (s .domain) (s .first) (s .bindings) .answer ≡ Opened.Open

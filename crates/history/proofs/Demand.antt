@@ -15,24 +15,16 @@ use Rattle.log_rows.specs.Appending.{rowsFit}
 use Rattle.log_rows.specs.declared.Row.{Row}
 use Rattle.log_rows.proofs.Space.{room-there}
 use Rattle.log_language.specs.Language.{Belongs}
-use Rattle.log_language.specs.RowSteps.{State, opened, may, endState}
+use Rattle.log_language.proofs.RowSteps.{State, opened, may, endState}
 use Rattle.log_language.proofs.Core.{one-more-may}
 use Rattle.log_language.proofs.Lists.{snoc-ind}
 use Rattle.log_reader.specs.Replay.{replayed}
 use Rattle.log_reader.specs.Reader.{endOf, openedAs}
 use Rattle.log_reader.proofs.StageRows.{row-agrees}
-use Rattle.history.specs.Histories.{Bench, bench, called, Start, History, opens, calls, rowsOf, openedQueue, opening}
+use Rattle.history.specs.Histories.{Bench, bench, called, Start, History, opens, calls, rowsOf, openedQueue, opening, Leaves}
 use Rattle.history.proofs.Written.{Put}
 use Rattle.history.proofs.CallOfRow.{Writes, writes}
 use Rattle.history.proofs.Spoken.{Stands, stands, history-belongs, history-ends, rows-after}
-
--- a history that leaves exactly these rows, with the memory behind them as it was
-pub record Leaves (s : Start) (rs : List Row) : Type 0 where
-  pub end : Bench
-  pub history : History s end
-  pub wrote : rowsOf end ≡ rs
-  pub used : end .used ≡ length rs
-  pub behind : drop (length rs * 5) (end .log) ≡ drop (length rs * 5) (s .memory)
 
 fitted : (x : Bench) → x .used * 5 ≤ length (x .log) → rowsFit (length (x .log)) (x .used) ≡ true
 unfolding rowsFit

@@ -1,21 +1,17 @@
 -- Histories there are: one whose log has a row of each of the eight kinds
 use Prim.Native.Nat.{ℕ}
-use mathlib.Core.Path.{_≡_, refl}
-use mathlib.Core.Bool.{true}
+use mathlib.Core.Path.{refl}
 use mathlib.Core.List.{List, [], _∷_}
 use native.Mathlib.Omega.{arith}
 use Rattle.queue_record.specs.Openings.{iteratorOpened}
-use Rattle.stage.proofs.Sets.{means-same}
 use Rattle.queue_record.specs.declared.record.Kind.{Kind}
-use Rattle.queue_record.specs.declared.record.Queue.{Queue}
-use Rattle.queue_questions.specs.Questions.{matches, committed}
 use Rattle.log_rows.specs.Rows.{rowOf}
 use Rattle.log_rows.specs.declared.Row.{Row}
 use Rattle.log_language.specs.RowKinds.{kindAt}
 use Rattle.log_language.specs.Language.{Belongs}
 use Rattle.log_language.proofs.FirstBad.{belongs-stop}
-use Rattle.history.specs.Histories.{Start, opening}
-use Rattle.history.proofs.Demand.{Leaves, language-spoken}
+use Rattle.history.specs.Histories.{Start, opening, Leaves}
+use Rattle.history.proofs.Demand.{language-spoken}
 
 -- an iterator with one binding, attempts from 5, and memory for twelve rows and three words more
 abbrev pub lent : List ℕ
@@ -38,7 +34,3 @@ each-belongs = belongs-stop (opening shown) ofEachKind .1 refl
 pub each-kind-left : Leaves shown ofEachKind
 unfolding iteratorOpened
 each-kind-left = language-spoken shown refl ofEachKind each-belongs (omega arith)
-
--- each admit of a history is one that a caller can make: the committed bindings as target match, and no target does not
-pub target-there : (q : Queue) → matches q (committed q) ≡ true
-target-there q = means-same (committed q) (committed q) (λ x. refl)

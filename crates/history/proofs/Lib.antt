@@ -6,6 +6,7 @@ pub mod CallOfRow
 pub mod Demand
 pub mod Accepts
 pub mod Exhibit
+pub mod Computed
 pub mod Outs
 pub mod Rising
 pub mod Lives

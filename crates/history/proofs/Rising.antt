@@ -1,35 +1,19 @@
 -- Attempts rise by 1 from the first: what holds of every history
-use Prim.Native.Nat.{ℕ, zero, suc, _+_, _<_}
-use mathlib.Core.Path.{_≡_, refl, sym, ap, _∙_}
-use mathlib.Core.Bool.{Bool, true, false, _&&_}
-use mathlib.Core.List.{List, [], _∷_}
-use native.Mathlib.Omega.{arith}
-use borrow.Author.Tests.{eqb-true}
-use lib.Dec.{eqb, ltb}
+use Prim.Native.Nat.{ℕ, _+_, _<_}
+use mathlib.Core.Path.{_≡_, refl, ap, _∙_}
 use lib.ListN.{length, getD}
-use Rattle.stage.specs.Choice.{if_then_else_}
-use Rattle.stage.proofs.Ways.{and-left, and-right, clash}
 use Rattle.queue_record.specs.declared.record.Kind.{Kind}
 use Rattle.queue_record.specs.declared.record.Kind.the-variants.{Scope, Iterator}
 use Rattle.log_rows.specs.declared.Row.{Row}
-use Rattle.log_language.specs.RowKinds.{RowKind, is, sameKind, kindOf, formed}
-use Rattle.log_language.specs.RowKinds.RowKind.{register, land, pop, complete, retry, admit, end, cancel, unknown}
 use Rattle.log_language.specs.Readings.{keep}
-use Rattle.log_language.specs.Language.{grants, attemptsFrom, attemptLimit}
-use Rattle.log_language.specs.RowSteps.{State, Selected, newest, isAt, holds, raised, mayPop, mayComplete, mayRetry, mayAs, leaveAs, may, leave, runs, opened}
-use Rattle.log_language.specs.RowSteps.Selected.{unselected, ready, issued, failed}
-use Rattle.log_language.proofs.Core.{belongs-runs}
+use Rattle.log_language.specs.RowKinds.{is}
+use Rattle.log_language.specs.RowKinds.RowKind.{pop}
+use Rattle.log_language.specs.Language.{grants}
+use Rattle.log_language.proofs.Attempts.{attempts-at}
+use Rattle.log_language.proofs.Pops.{pops-carry}
 use Rattle.log_reader.specs.Reader.{openingOf}
 use Rattle.history.specs.Histories.{Bench, Start, History, rowsOf, opening}
 use Rattle.history.proofs.Spoken.{history-belongs}
-use Rattle.history.proofs.Outs.{one}
-
--- ---- as they are granted
--- rows that carry n, n + 1 and so on carry n + k at place k
-carries : (n : ℕ) (rs : List Row) → attemptsFrom n rs ≡ true → (k : ℕ) (d : Row) → k < length rs → getD rs k d .attempt ≡ n + k
-carries n [] h k d l = absurd (omega arith)
-carries n (r ∷ rs) h zero d l = eqb-true _ _ (and-left _ _ (and-left _ (attemptsFrom (suc n) rs) h)) ∙ omega arith
-carries n (r ∷ rs) h (suc k) d l = carries (suc n) rs (and-right (eqb (r .attempt) n && ltb n attemptLimit) _ h) k d (omega arith) ∙ omega arith
 
 first-is : (kind : Kind) (first : ℕ) → openingOf kind first .first ≡ first
 first-is Scope first = refl
@@ -37,79 +21,8 @@ first-is Iterator first = refl
 
 -- attempts granted, to first pops and retries, rise by 1 from the first
 pub history-grants : (s : Start) (b : Bench) → History s b → (k : ℕ) (d : Row) → k < length (grants (rowsOf b)) → getD (grants (rowsOf b)) k d .attempt ≡ s .first + k
-history-grants s b h k d l = carries (opening s .first) (grants (rowsOf b)) (history-belongs s b h .attemptsInOrder .0) k d l ∙ ap (λ (n : ℕ). n + k) (first-is (s .kind) (s .first))
-
--- ---- as they are handed out
--- the attempt that the next pop carries: a ready ticket's own, else the next
-abbrev coming : Selected → ℕ → ℕ
-coming unselected n = n
-coming (ready t a) n = a
-coming (issued t a) n = n
-coming (failed t a) n = n
-
--- a ready ticket has the last attempt that was granted
-abbrev LastGranted : Selected → ℕ → Type 0
-LastGranted unselected n = Unit {0}
-LastGranted (ready t a) n = suc a ≡ n
-LastGranted (issued t a) n = Unit {0}
-LastGranted (failed t a) n = Unit {0}
-
--- what a row does to the coming attempt
-record Rises (k : RowKind) (s : State) (r : Row) : Type 0 where
-  last : LastGranted (leaveAs k s r .selected) (leaveAs k s r .upcoming)
-  rises : coming (leaveAs k s r .selected) (leaveAs k s r .upcoming) ≡ one (sameKind pop k) + coming (s .selected) (s .upcoming)
-  carried : sameKind pop k ≡ true → r .attempt ≡ coming (s .selected) (s .upcoming)
-
-pop-rises : (x : Selected) (s : State) (r : Row) → mayPop x s r ≡ true → LastGranted x (s .upcoming) → (raised x (s .upcoming) ≡ suc (coming x (s .upcoming))) × (r .attempt ≡ coming x (s .upcoming))
-pop-rises unselected s r h l = (refl, eqb-true _ _ (and-left _ (ltb (s .upcoming) attemptLimit) (and-right (isAt (newest (s .slots)) (r .token)) _ h)))
-pop-rises (ready t a) s r h l = (sym l, eqb-true _ _ (and-right (holds (s .slots) t r) _ h))
-pop-rises (issued t a) s r h l = clash h refl
-pop-rises (failed t a) s r h l = clash h refl
-
-retry-rises : (x : Selected) (s : State) (r : Row) → mayRetry x s r ≡ true → (r .attempt ≡ s .upcoming) × (coming x (s .upcoming) ≡ s .upcoming)
-retry-rises unselected s r h = clash h refl
-retry-rises (ready t a) s r h = clash h refl
-retry-rises (issued t a) s r h = clash h refl
-retry-rises (failed t a) s r h = (eqb-true _ _ (and-left _ (ltb (s .upcoming) attemptLimit) (and-right (holds (s .slots) t r) _ h)), refl)
-
-complete-rises : (x : Selected) (r : Row) (n : ℕ) → mayComplete x r ≡ true → coming x n ≡ n
-complete-rises unselected r n h = refl
-complete-rises (ready t a) r n h = clash h refl
-complete-rises (issued t a) r n h = refl
-complete-rises (failed t a) r n h = refl
-
-settled-last : (b : Bool) (t a n : ℕ) → LastGranted (if b then unselected else failed t a) n × (coming (if b then unselected else failed t a) n ≡ n)
-settled-last true t a n = (tt, refl)
-settled-last false t a n = (tt, refl)
-
-rises : (k : RowKind) (s : State) (r : Row) → mayAs k s r ≡ true → LastGranted (s .selected) (s .upcoming) → Rises k s r
-rises register s r h l = record { last = l; rises = omega arith; carried = λ e. clash e refl }
-rises land s r h l = record { last = l; rises = omega arith; carried = λ e. clash e refl }
-rises pop s r h l = let p = pop-rises (s .selected) s r h l in record { last = tt; rises = p .0 ∙ omega arith; carried = λ e. p .1 }
-rises complete s r h l =
-    let p = settled-last (eqb (r .outcome) 0) (r .token) (r .attempt) (s .upcoming) in
-    let c = complete-rises (s .selected) r (s .upcoming) h in
-    record { last = p .0; rises = p .1 ∙ (sym c ∙ omega arith); carried = λ e. clash e refl }
-rises retry s r h l = let p = retry-rises (s .selected) s r h in record { last = ap suc (p .0); rises = p .0 ∙ (sym (p .1) ∙ omega arith); carried = λ e. clash e refl }
-rises admit s r h l = record { last = l; rises = omega arith; carried = λ e. clash e refl }
-rises end s r h l = record { last = l; rises = omega arith; carried = λ e. clash e refl }
-rises cancel s r h l = record { last = l; rises = omega arith; carried = λ e. clash e refl }
-rises unknown s r h l = clash h refl
-
--- one row before the others, kept or not
-row-before : (b : Bool) (r : Row) (rs : List Row) (c later : ℕ) → (b ≡ true → r .attempt ≡ c) → later ≡ one b + c
-    → ((k : ℕ) (d : Row) → k < length rs → getD rs k d .attempt ≡ later + k)
-    → (k : ℕ) (d : Row) → k < length (if b then r ∷ rs else rs) → getD (if b then r ∷ rs else rs) k d .attempt ≡ c + k
-row-before true r rs c later f e g zero d l = f refl ∙ omega arith
-row-before true r rs c later f e g (suc k) d l = g k d (omega arith) ∙ omega arith
-row-before false r rs c later f e g k d l = g k d l ∙ omega arith
-
-pops-carry : (s : State) (rs : List Row) → runs s rs ≡ true → LastGranted (s .selected) (s .upcoming) → (k : ℕ) (d : Row) → k < length (keep (is pop) rs) → getD (keep (is pop) rs) k d .attempt ≡ coming (s .selected) (s .upcoming) + k
-pops-carry s [] h l = λ k d n. absurd (omega arith)
-pops-carry s (r ∷ rs) h l =
-    let a : Rises (kindOf r) s r = rises (kindOf r) s r (and-right (formed r) _ (and-left (may s r) _ h)) l in
-    row-before (is pop r) r (keep (is pop) rs) _ _ (a .carried) (a .rises) (pops-carry (leave s r) rs (and-right (may s r) _ h) (a .last))
+history-grants s b h k d l = attempts-at (opening s .first) (grants (rowsOf b)) (history-belongs s b h .attemptsInOrder .0) k d l ∙ ap (λ (n : ℕ). n + k) (first-is (s .kind) (s .first))
 
 -- attempts handed out rise by 1 from the first: the pop at place k, fresh or ready, carries first + k
 pub history-attempts : (s : Start) (b : Bench) → History s b → (k : ℕ) (d : Row) → k < length (keep (is pop) (rowsOf b)) → getD (keep (is pop) (rowsOf b)) k d .attempt ≡ s .first + k
-history-attempts s b h k d l = pops-carry (opened (opening s)) (rowsOf b) (belongs-runs (opening s) (rowsOf b) .0 (history-belongs s b h) .1) tt k d l ∙ ap (λ (n : ℕ). n + k) (first-is (s .kind) (s .first))
+history-attempts s b h k d l = pops-carry (opening s) (rowsOf b) (history-belongs s b h) k d l ∙ ap (λ (n : ℕ). n + k) (first-is (s .kind) (s .first))

@@ -22,7 +22,7 @@ use Rattle.log_rows.specs.declared.Row.{Row}
 use Rattle.log_rows.proofs.RowList.{rows-written}
 use Rattle.log_rows.proofs.Space.{room-fits, room-few}
 use Rattle.log_language.specs.Language.{Belongs}
-use Rattle.log_language.specs.RowSteps.{State, opened, may, leave, endState}
+use Rattle.log_language.proofs.RowSteps.{State, opened, may, leave, endState}
 use Rattle.log_language.proofs.Core.{empty-belongs, one-more-may, end-snoc}
 use Rattle.log_reader.specs.Replay.{replayed}
 use Rattle.log_reader.specs.Reader.{endOf, openedAs}
