@@ -1,13 +1,11 @@
 -- The decimal of a number is the one list of digits without a leading zero that has its value
 use Prim.Native.Nat.{ℕ, zero, suc, _+_, _*_, _-_, _/_, _%_, _^_, _≤_, _<_}
 use mathlib.Core.Path.{_≡_, refl, sym, ap, _∙_}
-use mathlib.Core.Bool.{Bool, true, false, _&&_}
+use mathlib.Core.Bool.{Bool, true, _&&_}
 use mathlib.Core.List.{List, [], _∷_, _++_}
 use native.Mathlib.Omega.{arith}
 use lib.Dec.{leb, ltb}
-use lib.ListN.{length, length-append}
 use borrow.Author.Tests.{ltb-true, ltb-false, leb-true, le-leb, lt-ltb, le-ltb}
-use Rattle.stage.specs.Choice.{if_then_else_}
 use Rattle.stage.proofs.Ways.{hit, miss, pass, and-left, and-right, if-by}
 use Rattle.csv.specs.Form.{spelled}
 use Rattle.csv.specs.Reading.{isDigit, digitOf}

@@ -1,11 +1,11 @@
 -- Bytes put over others: piece by piece is all at once
-use Prim.Native.Nat.{ℕ, zero, suc, _+_, _-_, _≤_, _<_}
-use mathlib.Core.Path.{_≡_, refl, sym, ap, _∙_}
-use mathlib.Core.List.{List, [], _∷_, _++_, append-assoc}
+use Prim.Native.Nat.{ℕ, _+_, _-_, _≤_, _<_}
+use mathlib.Core.Path.{_≡_, sym, ap, _∙_}
+use mathlib.Core.List.{List, _++_, append-assoc}
 use native.Mathlib.Omega.{arith}
 use native.Mathlib.Numerals.{add-one}
 use lib.ListN.{length, take, drop, getD, set, length-append, length-drop}
-use lib.Seq.{paste, paste-zero, paste-suc, length-paste, take-length, length-take-le, take-at, drop-drop, drop-append-seam, drop-at}
+use lib.Seq.{paste, paste-suc, length-paste, take-length, length-take-le, take-at, drop-drop, drop-at}
 use Rattle.log_text.specs.Report.{pasted}
 
 pub paste-whole : (d : List ℕ) (at : ℕ) (s : List ℕ) → paste d at s (length s) ≡ pasted d at s

@@ -1,8 +1,8 @@
 -- What is read from here on is what is read from the start
-use Prim.Native.Nat.{_-_, _≤_}
+use Prim.Native.Nat.{_-_}
 use mathlib.Core.Path.{_≡_, refl, sym, _∙_, ap}
 use borrow.Author.Tests.{not-true, not-false}
-use lib.ListN.{length, drop, getD}
+use lib.ListN.{length, drop}
 use Rattle.csv.specs.Reading.{moreDigits, takes}
 use Rattle.csv.proofs.Digits.{digits-stop, digits-over, digits-on, digits-end, takes-fits}
 use borrow.Author.Needs.{needs}

@@ -1,5 +1,5 @@
 -- Byte by byte
-use Prim.Native.Nat.{_-_, _≤_, _+_}
+use Prim.Native.Nat.{_-_, _≤_}
 use mathlib.Core.Path.{_≡_, refl}
 use lib.ListN.{length}
 use lib.Seq.{paste, paste-zero}

@@ -1,6 +1,4 @@
 -- Names, six values, the last one
-use mathlib.Core.Path.{sym, ap, _∙_}
-use lib.ListN.{length}
 use Rattle.log_text.specs.Report.{names}
 use Rattle.log_text.proofs.Reported.{last-fits, reported}
 use borrow.Author.Needs.{needs}

@@ -1,8 +1,8 @@
 -- What was counted so far and what waits from here on make the whole
 use Prim.Native.Nat.{_+_, _-_, _≤_}
-use mathlib.Core.Path.{_≡_, sym, _∙_}
+use mathlib.Core.Path.{_≡_}
 use lib.ListN.{length, drop, getD}
-use Rattle.queue_record.specs.Waiting.{occupied, others}
+use Rattle.queue_record.specs.Waiting.{occupied}
 use Rattle.queue_record.proofs.WaitingCount.{waitingOf, tally-step, tally-end, share-small}
 use borrow.Author.Needs.{needs}
 use native.Mathlib.Omega.{arith}
