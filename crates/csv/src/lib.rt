@@ -4,5 +4,3 @@ mod number;
 
 pub use line::Line;
 pub use line::line_at;
-pub use number::Number;
-pub use number::number_at;

@@ -59,7 +59,7 @@ fn more_digits(text: &[u8], from: usize, first: u64) -> Number
 }
 
 // The decimal that starts at a place. Behind a leading 0 nothing is taken, so that a longer one is bad at its next byte.
-pub fn number_at(text: &[u8], at: usize) -> Number
+pub(crate) fn number_at(text: &[u8], at: usize) -> Number
     ensures { λ r. ⌜ r ≡ numberAt (now (text .entry)) at ⌝ }
 {
     if text.len() <= at {

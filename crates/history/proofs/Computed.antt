@@ -19,9 +19,8 @@ use Rattle.queue_steps.specs.Births.{registered, landed}
 use Rattle.queue_steps.specs.Attempts.{popped, completed, retried}
 use Rattle.queue_stages.specs.Stages.{admitted, ended, cancelledBy}
 use Rattle.cleanup_queue.specs.Runs.{Call, register, land, pop, complete, retry, admit, end, cancel}
-use Rattle.log_rows.specs.Rows.{rows, written}
+use Rattle.log_rows.specs.Rows.{rows, written, flats}
 use Rattle.log_rows.specs.Appending.{rowsFit, hasRoom, appendedUsed, appended}
-use Rattle.log_rows.proofs.RowList.{allFlat}
 use Rattle.log_calls.specs.Births.{registerRecorded, registerLogged, landRecorded, landLogged}
 use Rattle.log_calls.specs.Attempts.{popRecorded, popLogged, completeRecorded, completeLogged, retryRecorded, retryLogged}
 use Rattle.log_calls.specs.Stages.{admitRecorded, admitLogged, endRecorded, endLogged, cancelRecorded, cancelLogged}
@@ -50,7 +49,7 @@ at next count first second s failed issued phase = record { kind = Iterator; dom
 
 -- behind its first rows the log holds the words that were lent
 abbrev behind : ℕ → Queue → Bench
-behind used q = bench q used (allFlat (take used ofEachKind) ++ drop (used * 5) lent)
+behind used q = bench q used (flats (take used ofEachKind) ++ drop (used * 5) lent)
 
 opened-is : bench (openedQueue shown) 0 lent ≡ behind 0 (at 5 0 0 0 Free false false Idle)
 unfolding iteratorOpened iteratorOf

@@ -5,7 +5,7 @@ use mathlib.Core.Logic.{⊎-elim}
 use mathlib.Core.Bool.{true}
 use mathlib.Core.List.{List, [], _∷_, _++_}
 use native.Mathlib.Omega.{arith}
-use lib.ListN.{length, take, drop, length-append, length-drop}
+use lib.ListN.{length, take, drop, length-append}
 use lib.Seq.{length-take-le, drop-at, drop-drop}
 use Rattle.stage.proofs.Ways.{hit}
 use Rattle.queue_record.specs.Record.{Sized}
@@ -20,7 +20,7 @@ use Rattle.log_rows.specs.Rows.{rows, flat, written}
 use Rattle.log_rows.specs.Appending.{appended}
 use Rattle.log_rows.specs.declared.Row.{Row}
 use Rattle.log_rows.proofs.RowList.{rows-written}
-use Rattle.log_rows.proofs.Space.{room-fits, room-few}
+use Rattle.log_rows.proofs.Space.{room-fits, room-few, written-length}
 use Rattle.log_language.specs.Language.{Belongs}
 use Rattle.log_language.proofs.RowSteps.{State, opened, may, leave, endState}
 use Rattle.log_language.proofs.Core.{empty-belongs, one-more-may, end-snoc}
@@ -101,11 +101,7 @@ module _ (s : Start) (b : Bench) (c : Call) (i : Stands s b) (w : Wrote b c) whe
   behind-is = drop-at (take (b .used * 5) (b .log) ++ flat (w .row)) (drop (b .used * 5 + 5) (b .log)) (b .used * 5 + 5) head-long
 
   long-is : length (written (b .log) (b .used) (flat (w .row))) ≡ length (b .log)
-  unfolding written
-  long-is =
-      let t : length (take (b .used * 5) (b .log)) ≡ b .used * 5 = length-take-le (b .used * 5) (b .log) (i .within) in
-      let f : b .used * 5 + 5 ≤ length (b .log) = fits-in in
-      simp (length-append, length-drop) (omega arith)
+  long-is = written-length (b .log) (b .used) (w .row) fits-in
 
   abbrev taken : Queue
   taken = replayed (b .queue) (w .row) .queue

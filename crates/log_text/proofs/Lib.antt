@@ -10,3 +10,4 @@ pub mod RowsRead
 pub mod Openings
 pub mod Texts
 pub mod OneAnswer
+pub mod Responses
