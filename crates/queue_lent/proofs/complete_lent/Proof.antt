@@ -3,7 +3,7 @@
 -- When `Queue` gains or loses a field, or a field changes its type: no line changes, here or in `Lending.antt`. No line names a field of `Queue`, and the record goes in and out whole.
 -- When `Completed` gains a variant, or `Ticket` a field: no line changes.
 -- When `CompleteAnswer` gains a field or changes their order: `is-answer` and `is-queue` (`.0` is the first field, `.1 .0` the second), and `sub ! 0` and `sub ! 1` in the two lines below "`*q = r.queue; r.answer`".
--- When `complete` gains a parameter: `stayed`, the module's parameters, `x`, `at`, `to`, `passed`, `asks`, `exits` and `f-walks` gain an entry, and in `walk` one `alloc1`, one `pass1`, one operand and one `free1` are added, and each position of `_1` and `_0` rises by 2.
+-- When `complete` gains a parameter: `stayed`, the module's parameters, `x`, `at`, `to`, `exits` and `f-walks`, and `passed` of `Lending.antt`, gain an entry, and in `walk` one `alloc1`, one `pass1`, one operand and one `free1` are added, and each position of `_1` and `_0` rises by 2.
 -- Assumes nothing.
 use mathlib.Core.Path.{_≡_, refl, ap}
 use Prim.Native.Nat.{ℕ, _<_, _^_}
@@ -19,7 +19,7 @@ use prog.Wp.{Heap, Calls, Loops, WpFn, Tables}
 use ghost.Atoms.{Atoms, sem}
 use contract.Monad.{Fun}
 use contract.Running.{givenOf, tables, tablesOf}
-use types.Kit.{Go, Step, step, prop, Item, Given, ‵, raw, _⊛_, ⋆, _$_, _∵_, !, qed, by, move, keep, drop, use0, split, join, fsplit, fsplit3, fjoin, fjoin3, feqI, suffices, frame, done}
+use types.Kit.{Given, ‵, raw, _⊛_, ⋆, _$_, _∵_, !, qed, by, move, keep, drop, use0, split, join, fsplit, fsplit3, fjoin, fjoin3, feqI, suffices, frame, done}
 use types.Run.{look, look-raw, init, store-raw, forget, stop, hop, fld, from, load, of-opd, and-then, no-more, assigns, land, returns, enter, alloc1, alloc0, params1, pass1, pass0, free1, free0}
 use types.Part.{whole, sub, look-in}
 use types.SemTy.{Body}
@@ -27,7 +27,7 @@ use sound.WpLaws.{FmC, fmOf}
 use denote.RattleType.{owns}
 use denote.Laws.{Is}
 use denote.Memory.{mem}
-use denote.Plain.{uint-vals, uint-tells, uint-makes}
+use denote.Plain.{uint-vals, uint-tells}
 use denote.Builtin.{u64}
 use denote.Ref.{RefT, MutRef, ptr-vals, mut-tells}
 use denote.Signature.{plain}
@@ -59,7 +59,7 @@ use Rattle.queue_steps.proofs.complete as callee
 use Rattle.queue_steps.proofs.complete.Symbol as callee-def
 use Rattle.queue_steps.proofs.complete.Symbol.{name as #callee}
 use Rattle.queue_steps.proofs.complete.Met as callee-thm
-use Rattle.queue_lent.proofs.Lending.{qv, IsQueue, queue-typed, opens-queue, closes-queue, answered, meets}
+use Rattle.queue_lent.proofs.Lending.{qv, IsQueue, queue-typed, tv, IsTicket, passed, opens-queue, closes-queue, answered, meets}
 use Rattle.queue_lent.proofs.complete_lent.Key.{name as #f}
 use Rattle.queue_lent.proofs.complete_lent as f
 use Rattle.queue_lent.proofs.complete_lent.Statement as stated
@@ -67,9 +67,6 @@ use Rattle.queue_lent.proofs.complete_lent.Code as code
 
 abbrev stayed : Stays (f.ended .signature .params) (f.ended .kept)
 stayed = (stay-ref (0 ∷ []) tt (plain (λ _. Q.the-row)), (stay-none (λ _. T.the-row) yes, (stay-none (λ _. u64) yes, (stay-none (λ _. u64) yes, tt))))
-
-abbrev tv : Ticket → Val
-tv = LL.val T.the-type T′.the-laws
 
 -- the machine values of the callee's answer and of what is returned
 abbrev rv : CompleteAnswer → Val
@@ -89,7 +86,7 @@ is-queue r is = LL.owed R.the-type R′.the-laws r _ is .1 .0
 abbrev Callee : {M : Type 1} (𝓤 : URA M) (H : Heap 𝓤) (A : Atoms 𝓤) (at-mem : Memory → SProp 𝓤) (run : Routine → Fun 𝓤) → Contract 𝓤
 Callee 𝓤 H A at-mem run = tripleOf 𝓤 H A callee.signature (callee.spec 𝓤 H A at-mem run)
 
-module _ {M : Type 1} (𝓤 : URA M) (H : Heap 𝓤) (A : Atoms 𝓤) (W : Given 𝓤 H A) (at-mem : Memory → SProp 𝓤) (run : Routine → Fun 𝓤) (κ : Lft) (q : Share) (b o : ℕ) (γ : GName) (h : Queue) (t : Ticket) (oc kp : ℕ) (gt : Is T.the-row t (tv t ∷ [])) (go : oc < 2 ^ 64) (gk : kp < 2 ^ 64) where
+module _ {M : Type 1} (𝓤 : URA M) (H : Heap 𝓤) (A : Atoms 𝓤) (W : Given 𝓤 H A) (at-mem : Memory → SProp 𝓤) (run : Routine → Fun 𝓤) (κ : Lft) (q : Share) (b o : ℕ) (γ : GName) (h : Queue) (t : Ticket) (oc kp : ℕ) (gt : IsTicket t) (go : oc < 2 ^ 64) (gk : kp < 2 ^ 64) where
   abbrev x : RefT Queue × (Ticket × (ℕ × (ℕ × Unit {0})))
   x = (record { ptr = (b, o); name = γ; now = h }, (t, (oc, (kp, tt))))
 
@@ -103,19 +100,15 @@ module _ {M : Type 1} (𝓤 : URA M) (H : Heap 𝓤) (A : Atoms 𝓤) (W : Given
   abbrev to : Callee 𝓤 H A at-mem run .Ghost
   to = ((tt, tt, tt, (h, (t, (oc, (kp, tt)))), (qv h ∷ [], (tv t ∷ [], (vint w64 oc ∷ [], (vint w64 kp ∷ [], tt))))), tt)
 
-  -- what the three parameters beside the queue own, in front of `emp`
-  passed : {Γ : List (Item 𝓤)} {P : SProp 𝓤} → Step (Go {0}) W (‵ (owns (T.the-row ∷ u64 ∷ u64 ∷ []) (t, (oc, (kp, tt))) (tv t ∷ [], (vint w64 oc ∷ [], (vint w64 kp ∷ [], tt)))) ∷ Γ) (prop P) Γ (prop P)
-  passed = step (λ s. nothing ! $ owned ! u64 (Is u64) (uint-makes 𝓤 H A W w64) kp _ (refl, gk) $ fjoin ! $ owned ! u64 (Is u64) (uint-makes 𝓤 H A W w64) oc _ (refl, go) $ fjoin ! $ owned ! T.the-row (Is T.the-row) (LL.makes T.the-type T′.the-plain 𝓤 H A) t _ gt $ fjoin ! $ s)
-
   asks : IsQueue h → ent 𝓤 (emp 𝓤) (Callee 𝓤 H A at-mem run .pre to)
-  asks was = qed W [] ∵ nothing ! $ passed $ owned ! Q.the-row (Is Q.the-row) (LL.makes Q.the-type Q′.the-plain 𝓤 H A) h _ was $ fjoin ! $ nothing ! $ join ! $ frame ! $ done !
+  asks was = qed W [] ∵ nothing ! $ passed ! t oc kp gt go gk $ owned ! Q.the-row (Is Q.the-row) (LL.makes Q.the-type Q′.the-plain 𝓤 H A) h _ was $ fjoin ! $ nothing ! $ join ! $ frame ! $ done !
 
   exits : (r : CompleteAnswer) → r ≡ completed h t oc kp → Is R.the-row r (rv r ∷ [])
       → ent 𝓤 (⋆ 𝓤 H A (‵ (fobs γ (Q.the-row .coded .code (r .queue))) ∷ ‵ (fbor κ (Body (mem Q.the-row) b o γ)) ∷ ‵ (flft κ q) ∷ [])) (Post (pv (r .answer)))
   exits r e is =
       qed W (‵ (fobs γ (Q.the-row .coded .code (r .queue))) ∷ ‵ (fbor κ (Body (mem Q.the-row) b o γ)) ∷ ‵ (flft κ q) ∷ []) ∵
       suffices ! _ (ends-at 𝓤 H A f.ended stayed (f.clauses 𝓤 H A at-mem run) W (((κ, tt), (q, tt), tt, x, at), tt) (pv (r .answer)) (r .answer) (r .queue, (tt, (tt, (tt, tt)))) (tt, (tt, (tt, (tt, tt))))) $ says ! (ap (λ (y : CompleteAnswer). y .answer) e, ap (λ (y : CompleteAnswer). y .queue) e) $ nothing ! $ move ! (3 ∷ 0 ∷ []) $ join ! $
-      frame ! $ feqI ! (List Val) (vptr b o ∷ []) (vptr b o ∷ []) refl $ fjoin3 ! $ passed $ move ! (1 ∷ 0 ∷ []) $ fjoin ! $ frame ! $
+      frame ! $ feqI ! (List Val) (vptr b o ∷ []) (vptr b o ∷ []) refl $ fjoin3 ! $ passed ! t oc kp gt go gk $ move ! (1 ∷ 0 ∷ []) $ fjoin ! $ frame ! $
       owned ! P.the-row (Is P.the-row) (EL.makes P.the-type P′.the-plain 𝓤 H A) (r .answer) _ (is-answer r is) $ done !
 
   module _ (C : Calls 𝓤 H) (Λ : Loops 𝓤 H) (fm : FmC 𝓤 H (W .laws) C) (known : Triple 𝓤 (C #callee) (Callee 𝓤 H A at-mem run)) where
