@@ -8,6 +8,7 @@ mod search;
 mod setters;
 
 pub use check::well_formed;
+pub use check::zeros_from;
 pub use openings::OpenAnswer;
 pub use openings::Opened;
 pub use openings::iterator;

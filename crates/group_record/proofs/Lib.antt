@@ -1,0 +1,4 @@
+pub mod Unasked
+pub mod Walk
+pub mod Domains
+pub mod Spots

@@ -1,0 +1,6 @@
+pub mod Record
+pub mod Blank
+pub mod Questions
+pub mod Scan
+pub mod WellFormed
+pub mod Ids
