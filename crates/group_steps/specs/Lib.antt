@@ -1,0 +1,3 @@
+pub mod Births
+pub mod Attempts
+pub mod Stages
