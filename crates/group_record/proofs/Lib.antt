@@ -2,3 +2,4 @@ pub mod Unasked
 pub mod Walk
 pub mod Domains
 pub mod Spots
+pub mod Counted

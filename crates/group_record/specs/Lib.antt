@@ -4,3 +4,4 @@ pub mod Questions
 pub mod Scan
 pub mod WellFormed
 pub mod Ids
+pub mod Count

@@ -23,6 +23,7 @@ pub use questions::is_drained;
 pub use questions::is_yes;
 pub use record::Groups;
 pub use record::Place;
+pub use scan::live_count;
 pub use scan::some;
 pub use scan::some_from;
 pub use setters::empty;
