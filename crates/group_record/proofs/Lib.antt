@@ -3,3 +3,4 @@ pub mod Walk
 pub mod Domains
 pub mod Spots
 pub mod Counted
+pub mod Fit
