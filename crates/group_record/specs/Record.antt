@@ -1,7 +1,7 @@
 -- The group record with one part set, and the records that calls make. An added field changes this file and no call
 use Prim.Native.Nat.{ℕ, _+_}
 use mathlib.Core.Bool.{true, false}
-use mathlib.Core.List.{[]}
+use mathlib.Core.List.{List, []}
 use lib.ListN.{getD, set, replicate}
 use Rattle.stage.specs.declared.phases.Phase.the-variants.{Idle}
 use Rattle.queue_record.specs.Openings.{blank}
@@ -39,6 +39,9 @@ holding p q = record { id = p .id; live = p .live; queue = q }
 -- one place holds another queue; its id and mark and the fifteen other places stay
 abbrev pub withQueue : Groups → ℕ → Queue → Groups
 withQueue g i q = withPlace g i (holding (placeAt g i) q)
+
+abbrev pub withPlaces : Groups → List Place → Groups
+withPlaces g ps = record { base = g .base; next = g .next; sealed = g .sealed; places = ps }
 
 abbrev pub withNext : Groups → ℕ → Groups
 withNext g n = record { base = g .base; next = n; sealed = g .sealed; places = g .places }
