@@ -25,7 +25,7 @@ pub record Fit (q : Queue) : Type 0 where
   pub marks : marksFit (isSelected (q .selection)) (q .failed) (q .issued) ≡ true
   pub selected : selectedFits (q .failed) (q .issued) (q .slots) (q .selection) ≡ true
 
-all-at : (bs : List Bool) (i : ℕ) → allTrue bs ≡ true → getD bs i true ≡ true
+pub all-at : (bs : List Bool) (i : ℕ) → allTrue bs ≡ true → getD bs i true ≡ true
 all-at [] i h = refl
 all-at (b ∷ bs) zero h = and-left b (allTrue bs) h
 all-at (b ∷ bs) (suc i) h = all-at bs i (and-right b (allTrue bs) h)

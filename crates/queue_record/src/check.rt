@@ -10,7 +10,7 @@ ghost use Rattle.queue_record.specs.WellFormed.{restZero, scopeFits, tic
 ghost use Rattle.queue_record.specs.declared.record.Selection.the-variants.{Of};
 
 // Whether every number of `s` from the place `from` on is 0.
-fn zeros_from(s: &[u64], from: u64) -> bool
+pub fn zeros_from(s: &[u64], from: u64) -> bool
     ensures { λ r. ⌜ r ≡ restZero from (now (s .entry)) ⌝ }
 {
     let mut i = from as usize;

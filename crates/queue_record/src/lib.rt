@@ -9,6 +9,7 @@ mod setters;
 mod tally;
 
 pub use check::well_formed;
+pub use check::zeros_from;
 pub use openings::OpenAnswer;
 pub use openings::Opened;
 pub use openings::iterator;

@@ -1,0 +1,35 @@
+-- The words in which the laws of the groups are stated
+use Prim.Native.Nat.{ℕ, _+_, _<_, _≤_}
+use mathlib.Core.Path.{_≡_}
+use mathlib.Core.Bool.{Bool, true, false}
+use Rattle.queue_record.specs.WellFormed.{wellFormed}
+use Rattle.queue_record.specs.Record.{Sized}
+use Rattle.queue_record.specs.declared.record.Queue.{Queue}
+use Rattle.group_record.specs.Record.{placeAt, queueAt, freePlace}
+use Rattle.group_record.specs.declared.record.Groups.{Groups}
+use Rattle.group_record.specs.Blank.{isBlank}
+use Rattle.group_record.specs.WellFormed.{lastBase, ids}
+use lib.ListN.{length}
+
+-- the place i holds a live group
+abbrev pub LiveAt : Groups → ℕ → Type 0
+LiveAt g i = placeAt g i .live ≡ true
+
+abbrev pub idAt : Groups → ℕ → ℕ
+idAt g i = placeAt g i .id
+
+-- the sixteen places are there, and their queues' arrays have their places: true of every value that code can hold
+pub record Whole (g : Groups) : Type 0 where
+  pub places : length (g .places) ≡ 16
+  pub queues : (i : ℕ) → i < 16 → Sized (queueAt g i)
+
+-- document 01's well-formed group record, read place by place (sound-means, means-sound: it is the check's answer)
+pub record Sound (g : Groups) : Type 0 where
+  pub base : g .base ≤ lastBase
+  pub next : g .next ≤ ids
+  pub distinct : (i j : ℕ) → i < 16 → j < 16 → LiveAt g i → LiveAt g j → idAt g i ≡ idAt g j → i ≡ j
+  pub below : (i : ℕ) → i < 16 → LiveAt g i → idAt g i < g .next
+  pub queues : (i : ℕ) → i < 16 → LiveAt g i → wellFormed (queueAt g i) ≡ true
+  pub domains : (i : ℕ) → i < 16 → LiveAt g i → queueAt g i .domain ≡ g .base + idAt g i
+  pub free : (i : ℕ) → i < 16 → placeAt g i .live ≡ false → (idAt g i ≡ 0) × (isBlank (queueAt g i) ≡ true)
+  pub sealed : g .sealed ≡ true → (i : ℕ) → i < 16 → placeAt g i .live ≡ false

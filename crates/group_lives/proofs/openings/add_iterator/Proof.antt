@@ -1,0 +1,32 @@
+-- Refused with 1 or 12, with 14, or an iterator is put in
+use mathlib.Core.Path.{sym, ap, _∙_}
+use denote.Ref.{now}
+use Rattle.queue_record.specs.Openings.{iteratorOpened}
+use Rattle.queue_record.specs.declared.record.Queue.{Queue}
+use Rattle.queue_record.specs.declared.openings.Opened.{Opened}
+use Rattle.queue_record.specs.declared.openings.OpenAnswer.{OpenAnswer}
+use Rattle.group_lives.specs.Openings.{nextDomain, added, addedQueue, addedIteratorBy, addedIterator}
+use Rattle.group_lives.proofs.Room.{domain-fits}
+use native.Mathlib.Omega.{arith}
+use borrow.Author.Needs.{needs}
+use Rattle.group_lives.proofs.openings.add_iterator.Statement.{statement}
+use Rattle.group_lives.proofs.openings.add_iterator.Tie as tie
+
+pub add-iterator-spec : {M : Type 1} → statement M
+unfolding addedIterator
+add-iterator-spec =
+    tie.close
+    (tie.spec
+    (λ c κs. search needs)
+    (λ c. search needs)
+    (λ c κs. search needs)
+    (λ c. search needs)
+    (λ c. omega (arith, domain-fits (c .before .before .before .before .before .args .g) (sym (c .before .before .before .is-unsealed .ensures) ∙ (c .before .enum-told .given .1))))
+    (λ c κs. search needs)
+    (λ c. search needs)
+    (λ c κs. search needs)
+    (λ c. search needs)
+    (λ c κs. search needs)
+    (λ c. (c .add-refused .ensures) ∙ sym (ap (addedIteratorBy (c .before .before .before .before .before .before .args .g) (now (c .before .before .before .before .before .before .args .bindings))) (sym (c .before .before .before .before .is-unsealed .ensures) ∙ (c .before .before .gate .given .1))))
+    (λ c. (c .add-refused2 .ensures) ∙ (sym (ap (addedQueue (c .before .before .before .before .before .before .before .before .before .before .before .args .g) ((c .before .before .before .before .before .iterator .result) .queue)) (c .before .before .answer .given .1)) ∙ (ap (λ (o : OpenAnswer). addedQueue (c .before .before .before .before .before .before .before .before .before .before .before .args .g) (o .queue) (o .answer)) (c .before .before .before .before .before .iterator .ensures) ∙ sym (ap (addedIteratorBy (c .before .before .before .before .before .before .before .before .before .before .before .args .g) (now (c .before .before .before .before .before .before .before .before .before .before .before .args .bindings))) (sym (c .before .before .before .before .before .before .before .before .before .is-unsealed .ensures) ∙ (c .before .before .before .before .before .before .before .enum-told .given .1))))))
+    (λ c. (c .add .ensures) ∙ (sym (ap (addedQueue (c .before .before .before .before .before .before .before .before .before .before .args .g) ((c .before .before .before .before .iterator .result) .queue)) (c .before .enum-told2 .given .1)) ∙ (ap (λ (o : OpenAnswer). addedQueue (c .before .before .before .before .before .before .before .before .before .before .args .g) (o .queue) (o .answer)) (c .before .before .before .before .iterator .ensures) ∙ sym (ap (addedIteratorBy (c .before .before .before .before .before .before .before .before .before .before .args .g) (now (c .before .before .before .before .before .before .before .before .before .before .args .bindings))) (sym (c .before .before .before .before .before .before .before .before .is-unsealed .ensures) ∙ (c .before .before .before .before .before .before .enum-told .given .1)))))))

@@ -1,0 +1,32 @@
+-- Refused with 19, or the root is put in
+use mathlib.Core.Path.{_≡_, sym, ap, _∙_}
+use Prim.Native.Nat.{ℕ, _<_}
+use borrow.Author.Tests.{lt-ltb, le-ltb}
+use Rattle.stage.proofs.Ways.{hit, miss}
+use Rattle.queue_record.specs.Openings.{scopeOf}
+use Rattle.queue_record.specs.declared.record.Queue.{Queue}
+use Rattle.queue_record.specs.declared.openings.Opened.{Opened}
+use Rattle.group_record.specs.Record.{emptyOf, opening}
+use Rattle.group_record.specs.declared.record.Groups.{Groups}
+use Rattle.group_lives.specs.Openings.{newOf}
+use Rattle.group_lives.specs.declared.openings.NewAnswer.{NewAnswer}
+use Rattle.group_lives.proofs.Room.{none-yet}
+use native.Mathlib.Omega.{arith}
+use borrow.Author.Needs.{needs}
+use Rattle.group_lives.proofs.openings.new.Statement.{statement}
+use Rattle.group_lives.proofs.openings.new.Tie as tie
+
+abbrev answered : Opened → Groups → NewAnswer
+answered a g = record { answer = a; groups = g }
+
+pub new-spec : {M : Type 1} → statement M
+unfolding newOf
+new-spec =
+    tie.close
+    (tie.spec
+    (λ c κs. search needs)
+    (λ c. ap (answered _) (c .empty .ensures) ∙ sym (hit _ (lt-ltb _ _ (c .before .if1 .taken))))
+    (λ c κs. search needs)
+    (λ c κs. search needs)
+    (λ c κs. (omega arith, none-yet _ _ (c .empty2 .ensures)))
+    (λ c. ap (answered _) ((c .put-new .ensures) ∙ (ap (λ (h : Groups). opening h 0 (c .before .before .scope .result)) (c .before .empty2 .ensures) ∙ ap (λ (q : Queue). opening (emptyOf (c .before .before .before .before .args .base)) 0 q) (c .before .before .scope .ensures))) ∙ sym (miss _ (le-ltb _ _ (c .before .before .before .if1 .left)))))

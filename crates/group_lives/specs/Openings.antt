@@ -1,0 +1,83 @@
+-- A new record and the openings of groups: document 01, "Groups", first, second and fifth sentence
+use Prim.Native.Nat.{ℕ, _+_}
+use mathlib.Core.Bool.{not}
+use mathlib.Core.List.{List, []}
+use lib.Dec.{leb, ltb}
+use Rattle.stage.specs.Choice.{if_then_else_}
+use Rattle.queue_record.specs.declared.search.Found.{Found}
+use Rattle.queue_record.specs.declared.search.Found.the-variants.{At, Missing}
+use Rattle.queue_record.specs.Refusals.{broken, groupsFull, sealed, noId}
+use Rattle.queue_record.specs.Openings.{scopeOf, iteratorOpened}
+use Rattle.queue_record.specs.declared.record.Queue.{Queue}
+use Rattle.queue_record.specs.declared.openings.Opened.{Opened}
+use Rattle.queue_record.specs.declared.openings.Opened.the-variants.{Open}
+use Rattle.group_record.specs.Record.{emptyOf, opening}
+use Rattle.group_record.specs.Scan.{firstYes}
+use Rattle.group_record.specs.WellFormed.{lastBase, ids, wellGrouped}
+use Rattle.group_record.specs.declared.record.Groups.{Groups}
+use Rattle.group_record.specs.declared.questions.Question.the-variants.{Free}
+use Rattle.group_record.specs.declared.ids.Spot.{Spot}
+use Rattle.group_lives.specs.declared.openings.NewAnswer.{NewAnswer}
+use Rattle.group_lives.specs.declared.openings.Added.{Added}
+use Rattle.group_lives.specs.declared.openings.Added.the-variants.{Id}
+use Rattle.group_lives.specs.declared.openings.AddAnswer.{AddAnswer}
+
+-- a base above 18446744073709486079 gets 19 and an empty group record of base 0; any other, as upstream, the root: a scope
+-- open as id 0, whose domain is the base
+unfoldable pub newOf : ℕ → NewAnswer
+newOf base =
+    if ltb lastBase base then record { answer = Opened.Refused noId; groups = emptyOf 0 } else
+    record { answer = Open; groups = opening (emptyOf base) 0 (scopeOf base 0) }
+
+-- 1, then 12
+abbrev pub unsealed : Groups → Opened
+unsealed g =
+    if not (wellGrouped g) then Opened.Refused broken else
+    if g .sealed then Opened.Refused sealed else
+    Open
+
+-- 11, then 19: sixteen live, or ids used up
+abbrev pub roomAt : Groups → Found → Spot
+roomAt g Missing = Spot.Refused groupsFull
+roomAt g (At i) = if leb ids (g .next) then Spot.Refused noId else Spot.At i
+
+-- the lowest free place
+abbrev pub roomOf : Groups → Spot
+roomOf g = roomAt g (firstYes g Free [])
+
+abbrev pub refusedAdd : Groups → ℕ → AddAnswer
+refusedAdd g refusal = record { answer = Added.Refused refusal; groups = g }
+
+-- the id is next, in opening order
+abbrev pub addedAt : Groups → Queue → Spot → AddAnswer
+addedAt g q (Spot.Refused refusal) = refusedAdd g refusal
+addedAt g q (Spot.At i) = record { answer = Id (g .next); groups = opening g i q }
+
+abbrev pub added : Groups → Queue → AddAnswer
+added g q = addedAt g q (roomOf g)
+
+-- domain is base plus id
+abbrev pub nextDomain : Groups → ℕ
+nextDomain g = g .base + g .next
+
+-- open starts each queue with first attempt 0
+abbrev pub addedScopeBy : Groups → Opened → AddAnswer
+addedScopeBy g (Opened.Refused refusal) = refusedAdd g refusal
+addedScopeBy g Open = added g (scopeOf (nextDomain g) 0)
+
+-- open of a scope: 1, 12, 11, 19
+unfoldable pub addedScope : Groups → AddAnswer
+addedScope g = addedScopeBy g (unsealed g)
+
+-- where the queue's opening is not refused with 14
+abbrev pub addedQueue : Groups → Queue → Opened → AddAnswer
+addedQueue g q (Opened.Refused refusal) = refusedAdd g refusal
+addedQueue g q Open = added g q
+
+abbrev pub addedIteratorBy : Groups → List ℕ → Opened → AddAnswer
+addedIteratorBy g bindings (Opened.Refused refusal) = refusedAdd g refusal
+addedIteratorBy g bindings Open = addedQueue g (iteratorOpened (nextDomain g) 0 bindings .queue) (iteratorOpened (nextDomain g) 0 bindings .answer)
+
+-- open of an iterator: 1, 12, 14, 11, 19
+unfoldable pub addedIterator : Groups → List ℕ → AddAnswer
+addedIterator g bindings = addedIteratorBy g bindings (unsealed g)

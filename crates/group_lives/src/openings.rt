@@ -1,0 +1,141 @@
+// A new record, and groups opened in it.
+use group_record::Groups;
+use group_record::IDS;
+use group_record::LAST_BASE;
+use group_record::Question;
+use group_record::Spot;
+use group_record::empty;
+use group_record::lowest;
+use group_record::put_new;
+use group_record::well_grouped;
+use queue_record::Found;
+use queue_record::Opened;
+use queue_record::Queue;
+use queue_record::iterator;
+use queue_record::refusal::BROKEN;
+use queue_record::refusal::GROUPS_FULL;
+use queue_record::refusal::NO_ID;
+use queue_record::refusal::SEALED;
+use queue_record::scope;
+ghost use mathlib.Core.Path.{_≡_};
+ghost use Rattle.group_lives.specs.Openings.{newOf, unsealed, roomOf, refusedAdd, added, addedScope, addedIterator};
+
+pub struct NewAnswer {
+    pub answer: Opened,
+    pub groups: Groups,
+}
+
+// The root is open as id 0; a base too large gets the empty record of base 0.
+pub fn new(base: u64) -> NewAnswer
+    ensures { λ r. ⌜ r ≡ newOf base ⌝ }
+{
+    if LAST_BASE < base {
+        let none = empty(0);
+        return NewAnswer {
+            answer: Opened::Refused(NO_ID),
+            groups: none,
+        };
+    }
+    let root = scope(base, 0);
+    let groups = put_new(empty(base), 0, root);
+    NewAnswer {
+        answer: Opened::Open,
+        groups: groups,
+    }
+}
+
+// What opening and sealing check first.
+pub fn is_unsealed(g: Groups) -> Opened
+    ensures { λ r. ⌜ r ≡ unsealed g ⌝ }
+{
+    if !well_grouped(g) {
+        return Opened::Refused(BROKEN);
+    }
+    if g.sealed {
+        return Opened::Refused(SEALED);
+    }
+    Opened::Open
+}
+
+// The lowest free place, if an id is left for it.
+fn room(g: Groups) -> Spot
+    ensures { λ r. ⌜ r ≡ roomOf g ⌝ }
+{
+    let found = lowest(g, Question::Free);
+    let Found::At(place) = found else {
+        return Spot::Refused(GROUPS_FULL);
+    };
+    if IDS <= g.next {
+        return Spot::Refused(NO_ID);
+    }
+    Spot::At(place as usize)
+}
+
+pub enum Added {
+    Id(u64),
+    Refused(u64),
+}
+
+pub struct AddAnswer {
+    pub answer: Added,
+    pub groups: Groups,
+}
+
+fn add_refused(g: Groups, refusal: u64) -> AddAnswer
+    ensures { λ r. ⌜ r ≡ refusedAdd g refusal ⌝ }
+{
+    AddAnswer {
+        answer: Added::Refused(refusal),
+        groups: g,
+    }
+}
+
+fn add(g: Groups, queue: Queue) -> AddAnswer
+    ensures { λ r. ⌜ r ≡ added g queue ⌝ }
+{
+    let spot = room(g);
+    match spot {
+        Spot::Refused(refusal) => add_refused(g, refusal),
+        Spot::At(at) => {
+            let id = g.next;
+            let groups = put_new(g, at, queue);
+            AddAnswer {
+                answer: Added::Id(id),
+                groups: groups,
+            }
+        }
+    }
+}
+
+// Opens a scope.
+pub fn add_scope(g: Groups) -> AddAnswer
+    ensures { λ r. ⌜ r ≡ addedScope g ⌝ }
+{
+    let gate = is_unsealed(g);
+    match gate {
+        Opened::Refused(refusal) => add_refused(g, refusal),
+        Opened::Open => {
+            let queue = scope(g.base + g.next, 0);
+            add(g, queue)
+        }
+    }
+}
+
+// Opens an iterator with its committed bindings.
+pub fn add_iterator(g: Groups, bindings: &[u64]) -> AddAnswer
+    ensures { λ r. ⌜ r ≡ addedIterator g (now (bindings .entry)) ⌝ }
+{
+    let gate = is_unsealed(g);
+    match gate {
+        Opened::Refused(refusal) => add_refused(g, refusal),
+        Opened::Open => {
+            let opening = iterator(g.base + g.next, 0, bindings);
+            let answer = opening.answer;
+            let queue = opening.queue;
+            match answer {
+                Opened::Refused(refusal) => add_refused(g, refusal),
+                Opened::Open => add(g, queue),
+            }
+        }
+    }
+}

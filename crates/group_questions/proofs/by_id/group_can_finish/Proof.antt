@@ -1,0 +1,19 @@
+-- Refused, or as the queue
+use mathlib.Core.Path.{ap, _∙_}
+use denote.Ref.{now}
+use Rattle.queue_questions.specs.Questions.{canFinishTold}
+use Rattle.queue_questions.specs.declared.questions.Told.{Told}
+use Rattle.group_record.specs.declared.ids.GetAnswer.{GetAnswer}
+use Rattle.group_questions.specs.ById.{toldBy}
+use borrow.Author.Needs.{needs}
+use Rattle.group_questions.proofs.by_id.group_can_finish.Statement.{statement}
+use Rattle.group_questions.proofs.by_id.group_can_finish.Tie as tie
+
+pub group-can-finish-spec : {M : Type 1} → statement M
+group-can-finish-spec =
+    tie.close
+    (tie.spec
+    (λ c κs. search needs)
+    (λ c κs. search needs)
+    (λ c κs. search needs)
+    (λ c. (c .told-by .ensures) ∙ (ap (λ (d : Told). toldBy ((c .before .before .before .get .result) .answer) d) (c .before .can-finish .ensures) ∙ ap (λ (a : GetAnswer). toldBy (a .answer) (canFinishTold (a .queue) (now (c .before .before .before .before .before .args .target)))) (c .before .before .before .get .ensures))))

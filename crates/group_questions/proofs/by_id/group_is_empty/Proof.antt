@@ -1,0 +1,18 @@
+-- Refused, or as the queue
+use mathlib.Core.Path.{ap, _∙_}
+use Rattle.queue_questions.specs.Questions.{isEmptyTold}
+use Rattle.queue_questions.specs.declared.questions.Told.{Told}
+use Rattle.group_record.specs.declared.ids.GetAnswer.{GetAnswer}
+use Rattle.group_questions.specs.ById.{toldBy}
+use borrow.Author.Needs.{needs}
+use Rattle.group_questions.proofs.by_id.group_is_empty.Statement.{statement}
+use Rattle.group_questions.proofs.by_id.group_is_empty.Tie as tie
+
+pub group-is-empty-spec : {M : Type 1} → statement M
+group-is-empty-spec =
+    tie.close
+    (tie.spec
+    (λ c κs. search needs)
+    (λ c κs. search needs)
+    (λ c κs. search needs)
+    (λ c. (c .told-by .ensures) ∙ (ap (λ (d : Told). toldBy ((c .before .before .before .get .result) .answer) d) (c .before .is-empty .ensures) ∙ ap (λ (a : GetAnswer). toldBy (a .answer) (isEmptyTold (a .queue))) (c .before .before .before .get .ensures))))

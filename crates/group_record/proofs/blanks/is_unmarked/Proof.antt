@@ -1,0 +1,23 @@
+-- Part by part
+use mathlib.Core.Path.{sym, ap, _∙_}
+use mathlib.Core.Bool.{not}
+use Rattle.stage.proofs.Ways.{pass, stop}
+use Rattle.group_record.specs.Blank.{isScope, isFree}
+use borrow.Author.Needs.{needs}
+use Rattle.group_record.proofs.blanks.is_unmarked.Statement.{statement}
+use Rattle.group_record.proofs.blanks.is_unmarked.Tie as tie
+
+pub is-unmarked-spec : {M : Type 1} → statement M
+is-unmarked-spec =
+    tie.close
+    (tie.spec
+    (λ c. search needs)
+    (λ c. search needs)
+    (λ c. sym (stop _ (ap isScope (c .enum-told2 .given .1))))
+    (λ c. search needs)
+    (λ c. search needs)
+    (λ c. sym (pass _ (ap isScope (c .before .before .enum-told .given .1)) ∙ stop _ (ap isFree (c .enum-told4 .given .1))))
+    (λ c. sym (pass _ (ap isScope (c .before .before .before .enum-told .given .1)) ∙ (pass _ (ap isFree (c .before .enum-told3 .given .1)) ∙ stop _ (ap not (c .if1 .taken)))))
+    (λ c. sym (pass _ (ap isScope (c .before .before .before .before .enum-told .given .1)) ∙ (pass _ (ap isFree (c .before .before .enum-told3 .given .1)) ∙ (pass _ (ap not (c .before .if1 .left)) ∙ stop _ (ap not (c .if2 .taken))))))
+    (λ c κs. search needs)
+    (λ c. ap not (c .differ .ensures) ∙ sym (pass _ (ap isScope (c .before .before .before .before .before .enum-told .given .1)) ∙ (pass _ (ap isFree (c .before .before .before .enum-told3 .given .1)) ∙ (pass _ (ap not (c .before .before .if1 .left)) ∙ pass _ (ap not (c .before .if2 .left)))))))

@@ -1,0 +1,59 @@
+// The walks over the places: the first that answers a question with yes, and how many are live.
+use crate::questions::Question;
+use crate::questions::ask;
+use crate::record::Groups;
+use queue_record::Found;
+ghost use mathlib.Core.Path.{_≡_};
+ghost use mathlib.Core.List.{[]};
+ghost use lib.ListN.{drop};
+ghost use Rattle.group_record.specs.Questions.{asksOf};
+ghost use Rattle.group_record.specs.Scan.{firstFrom, isThere, someYes};
+ghost use Rattle.group_record.specs.Count.{liveCount};
+
+// From the place `from` on; the target is for Unfinished.
+pub fn first_where(g: Groups, from: usize, question: Question, target: &[u64]) -> Found
+    ensures { λ r. ⌜ r ≡ firstFrom (asksOf question (now (target .entry))) from (drop from (g .places)) ⌝ }
+{
+    let mut i = from;
+    while i < 16 {
+        let place = g.places[i];
+        if ask(question, place, target) {
+            return Found::At(i as u64);
+        }
+        i += 1;
+    }
+    Found::Missing
+}
+
+pub fn some_from(g: Groups, from: usize, question: Question, target: &[u64]) -> bool
+    ensures { λ r. ⌜ r ≡ isThere (firstFrom (asksOf question (now (target .entry))) from (drop from (g .places))) ⌝ }
+{
+    let found = first_where(g, from, question, target);
+    let Found::At(_) = found else {
+        return false;
+    };
+    true
+}
+
+// Whether some place answers yes.
+pub fn some(g: Groups, question: Question) -> bool
+    ensures { λ r. ⌜ r ≡ someYes g question [] ⌝ }
+{
+    let none = [0u64; 1];
+    some_from(g, 0, question, &none[..0])
+}
+
+pub fn live_count(g: Groups) -> u64
+    ensures { λ r. ⌜ r ≡ liveCount (g .places) ⌝ }
+{
+    let mut count: u64 = 0;
+    let mut i = 0;
+    while i < 16 {
+        let place = g.places[i];
+        if place.live {
+            count += 1;
+        }
+        i += 1;
+    }
+    count
+}

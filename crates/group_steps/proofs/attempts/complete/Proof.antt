@@ -1,0 +1,33 @@
+-- Refused, or the queue steps and is put back
+use mathlib.Core.Path.{_≡_, sym, ap, _∙_}
+use lib.ListN.{length, length-map}
+use Rattle.queue_record.specs.declared.record.Queue.{Queue}
+use Rattle.queue_steps.specs.Attempts.{completed}
+use Rattle.queue_steps.specs.declared.attempts.Completed.{Completed}
+use Rattle.group_record.proofs.Spots.{spot-below}
+use Rattle.group_record.specs.declared.record.Groups.{Groups}
+use Rattle.group_steps.specs.Attempts.{settledAt, completedAt, completedIn}
+use Rattle.group_steps.specs.declared.attempts.GroupCompleteAnswer.{GroupCompleteAnswer}
+use borrow.Author.Needs.{needs}
+use Rattle.group_steps.proofs.attempts.complete.Statement.{statement}
+use Rattle.group_steps.proofs.attempts.complete.Tie as tie
+
+sixteen : (c : tie.Start) → length (c .args .g .places) ≡ 16
+sixteen c = simp length-map at (c .good .0 .1 .1 .1 .1 .1 .0 .1 .0 .1)
+
+abbrev answered : Completed → Groups → GroupCompleteAnswer
+answered a g = record { answer = a; groups = g }
+
+pub complete-spec : {M : Type 1} → statement M
+unfolding completedIn
+complete-spec =
+    tie.close
+    (tie.spec
+    (λ c κs. search needs)
+    (λ c. search needs)
+    (λ c. search needs)
+    (λ c κs. spot-below _ _ _ (sixteen (c .before .before .before .before)) (sym (c .before .before .before .look-up .ensures) ∙ (c .before .spot2 .given .1)))
+    (λ c κs. search needs)
+    (λ c κs. spot-below _ _ _ (sixteen (c .before .before .before .before .before .before .before)) (sym (c .before .before .before .before .before .before .look-up .ensures) ∙ (c .before .before .before .before .spot2 .given .1)))
+    (λ c. sym (ap (completedAt (c .before .before .before .before .args .g) (c .before .before .before .before .args .ticket) (c .before .before .before .before .args .outcome) (c .before .before .before .before .args .kept)) (sym (c .before .before .before .look-up .ensures) ∙ (c .before .spot .given .1))))
+    (λ c. ap (answered _) (c .put-queue .ensures) ∙ (ap (settledAt (c .before .before .before .before .before .before .before .before .args .g) _) ((c .before .before .complete .ensures) ∙ ap (λ (q : Queue). completed q (c .before .before .before .before .before .before .before .before .args .ticket) (c .before .before .before .before .before .before .before .before .args .outcome) (c .before .before .before .before .before .before .before .before .args .kept)) (c .before .before .before .queue-at .ensures)) ∙ sym (ap (completedAt (c .before .before .before .before .before .before .before .before .args .g) (c .before .before .before .before .before .before .before .before .args .ticket) (c .before .before .before .before .before .before .before .before .args .outcome) (c .before .before .before .before .before .before .before .before .args .kept)) (sym (c .before .before .before .before .before .before .before .look-up .ensures) ∙ (c .before .before .before .before .before .spot2 .given .1))))))

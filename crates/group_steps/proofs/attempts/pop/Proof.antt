@@ -1,0 +1,33 @@
+-- Refused, or the queue steps and is put back
+use mathlib.Core.Path.{_≡_, sym, ap, _∙_}
+use lib.ListN.{length, length-map}
+use Rattle.queue_record.specs.declared.record.Queue.{Queue}
+use Rattle.queue_steps.specs.Attempts.{popped}
+use Rattle.queue_steps.specs.declared.attempts.Popped.{Popped}
+use Rattle.group_record.proofs.Spots.{spot-below}
+use Rattle.group_record.specs.declared.record.Groups.{Groups}
+use Rattle.group_steps.specs.Attempts.{handedAt, poppedAt, poppedIn}
+use Rattle.group_steps.specs.declared.attempts.GroupPopAnswer.{GroupPopAnswer}
+use borrow.Author.Needs.{needs}
+use Rattle.group_steps.proofs.attempts.pop.Statement.{statement}
+use Rattle.group_steps.proofs.attempts.pop.Tie as tie
+
+sixteen : (c : tie.Start) → length (c .args .g .places) ≡ 16
+sixteen c = simp length-map at (c .good .0 .1 .1 .1 .1 .1 .0 .1 .0 .1)
+
+abbrev answered : Popped → Groups → GroupPopAnswer
+answered a g = record { answer = a; groups = g }
+
+pub pop-spec : {M : Type 1} → statement M
+unfolding poppedIn
+pop-spec =
+    tie.close
+    (tie.spec
+    (λ c κs. search needs)
+    (λ c. search needs)
+    (λ c. search needs)
+    (λ c κs. spot-below _ _ _ (sixteen (c .before .before .before .before)) (sym (c .before .before .before .look-up .ensures) ∙ (c .before .spot2 .given .1)))
+    (λ c κs. search needs)
+    (λ c κs. spot-below _ _ _ (sixteen (c .before .before .before .before .before .before .before)) (sym (c .before .before .before .before .before .before .look-up .ensures) ∙ (c .before .before .before .before .spot2 .given .1)))
+    (λ c. sym (ap (poppedAt (c .before .before .before .before .args .g)) (sym (c .before .before .before .look-up .ensures) ∙ (c .before .spot .given .1))))
+    (λ c. ap (answered _) (c .put-queue .ensures) ∙ (ap (handedAt (c .before .before .before .before .before .before .before .before .args .g) _) ((c .before .before .pop .ensures) ∙ ap (λ (q : Queue). popped q) (c .before .before .before .queue-at .ensures)) ∙ sym (ap (poppedAt (c .before .before .before .before .before .before .before .before .args .g)) (sym (c .before .before .before .before .before .before .before .look-up .ensures) ∙ (c .before .before .before .before .before .spot2 .given .1))))))

@@ -1,0 +1,4 @@
+pub mod Births
+pub mod Attempts
+pub mod Stages
+pub mod Rounds
