@@ -13,16 +13,16 @@ pub fn pop_lent(q: &mut Queue) -> Popped
     ensures { λ r. ⌜ (r ≡ popped (now (q .entry)) .answer) × (now (q .exit) ≡ popped (now (q .entry)) .queue) ⌝ }
 {
     let was = *q;
-    let r = pop(was);
-    *q = r.queue;
-    r.answer
+    let out = pop(was);
+    *q = out.queue;
+    out.answer
 }
 
 pub fn complete_lent(q: &mut Queue, ticket: Ticket, outcome: u64, kept: u64) -> Completed
     ensures { λ r. ⌜ (r ≡ completed (now (q .entry)) ticket outcome kept .answer) × (now (q .exit) ≡ completed (now (q .entry)) ticket outcome kept .queue) ⌝ }
 {
     let was = *q;
-    let r = complete(was, ticket, outcome, kept);
-    *q = r.queue;
-    r.answer
+    let back = complete(was, ticket, outcome, kept);
+    *q = back.queue;
+    back.answer
 }

@@ -2,7 +2,7 @@
 -- What it has in common with `complete_lent` is in `proofs/Lending.antt`. All that it knows of `pop` is that `pop` meets its contract.
 -- When `Queue` gains or loses a field, or a field changes its type: no line changes, here or in `Lending.antt`. No line names a field of `Queue`, and the record goes in and out whole.
 -- When `Popped` gains a variant, or `Ticket` a field: no line changes.
--- When `PopAnswer` gains a field or changes their order: `is-answer` and `is-queue` (`.0` is the first field, `.1 .0` the second), and `sub ! 0` and `sub ! 1` in the two lines below "`*q = r.queue; r.answer`".
+-- When `PopAnswer` gains a field or changes their order: `is-answer` and `is-queue` (`.0` is the first field, `.1 .0` the second), and `sub ! 0` and `sub ! 1` in the two lines below "`*q = out.queue; out.answer`".
 -- When `pop` gains a parameter: see `complete_lent`, which has three more.
 -- Assumes nothing.
 use mathlib.Core.Path.{_≡_, refl, ap}
@@ -116,11 +116,11 @@ module _ {M : Type 1} (𝓤 : URA M) (H : Heap 𝓤) (A : Atoms 𝓤) (W : Given
         move ! (8 ∷ 9 ∷ 10 ∷ []) $ opens-queue ! tt h b o (λ was.
         -- [the record's cell; the open borrow; obs; auth; _3; …; _2; …; _1; …; _0; …]: `let was = *q`
         assigns ! (of-opd ! (load ! (from ! (hop ! (look ! 8 refl) (stop !))) (look-raw ! 0 refl))) (from ! (stop !)) (init ! 6 refl (queue-typed 𝓤 H A W h was)) $
-        -- `let r = pop(was)`
+        -- `let out = pop(was)`
         use0 W (raw (Callee 𝓤 H A at-mem run .pre to)) (asks was) $ calls-at ! fm (Callee 𝓤 H A at-mem run) known to (and-then ! (load ! (from ! (stop !)) (look ! 7 refl)) (no-more !)) (λ v.
         answered ! R.the-row rv (LL.tells R.the-type R′.the-laws) (λ _ ws. sem 𝓤 H A (lasts callee.ended tt (h, tt) ws)) (λ r. r ≡ popped h) v (id⊢ 𝓤 _) (λ r e is.
         land ! (from ! (stop !)) (init ! 4 refl (LL.lawful R.the-type R′.the-laws 𝓤 H A W .typed r _ is .0)) $
-        -- `*q = r.queue; r.answer`
+        -- `*q = out.queue; out.answer`
         assigns ! (of-opd ! (load ! (from ! (fld ! refl (stop !))) (look-in ! 4 (sub ! 1 refl (whole !))))) (from ! (hop ! (look ! 8 refl) (stop !))) (store-raw ! 0 refl (queue-typed 𝓤 H A W (r .queue) (is-queue r is))) $
         assigns ! (of-opd ! (load ! (from ! (fld ! refl (stop !))) (look-in ! 4 (sub ! 0 refl (whole !))))) (from ! (stop !)) (init ! 10 refl (EL.lawful P.the-type P′.the-laws 𝓤 H A W tt .typed (r .answer) _ (is-answer r is) .0)) $
         -- the borrow is closed at the new record
