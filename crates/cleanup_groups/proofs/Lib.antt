@@ -1,2 +1,5 @@
 pub mod Every
 pub mod Sounds
+pub mod ByCase
+pub mod Placed
+pub mod Keeps
