@@ -42,7 +42,7 @@ use Rattle.cleanup_groups.proofs.Sounds.{sound-means}
 use Rattle.cleanup_groups.proofs.Keeps.{spot-live}
 use Rattle.cleanup_groups.proofs.Asked.{none-means}
 
-yes-is : (t : Told) → isYes t ≡ true → t ≡ Yes
+pub yes-is : (t : Told) → isYes t ≡ true → t ≡ Yes
 yes-is Yes h = refl
 yes-is No h = clash {b = false} h refl
 yes-is (Told.Refused n) h = clash {b = false} h refl

@@ -7,3 +7,5 @@ pub mod Ids
 pub mod Asked
 pub mod Drains
 pub mod Others
+pub mod Rounds
+pub mod Numbers
