@@ -9,3 +9,5 @@ pub mod Drains
 pub mod Others
 pub mod Rounds
 pub mod Numbers
+pub mod Refusals
+pub mod Blanks
