@@ -1,2 +1,13 @@
 pub mod Every
 pub mod Sounds
+pub mod ByCase
+pub mod Placed
+pub mod Keeps
+pub mod Ids
+pub mod Asked
+pub mod Drains
+pub mod Others
+pub mod Rounds
+pub mod Numbers
+pub mod Refusals
+pub mod Blanks

@@ -1,1 +1,4 @@
 pub mod Promises
+pub mod Runs
+pub mod Answers
+pub mod Orders

@@ -10,6 +10,9 @@ use Rattle.group_record.specs.declared.record.Groups.{Groups}
 use Rattle.group_record.specs.Blank.{isBlank}
 use Rattle.group_record.specs.WellFormed.{lastBase, ids}
 use lib.ListN.{length}
+use mathlib.Core.List.{[]}
+use Rattle.stage.specs.Phases.{isPending, isSettled}
+use Rattle.queue_record.specs.Waiting.{waiting}
 
 -- the place i holds a live group
 abbrev pub LiveAt : Groups → ℕ → Type 0
@@ -33,3 +36,23 @@ pub record Sound (g : Groups) : Type 0 where
   pub domains : (i : ℕ) → i < 16 → LiveAt g i → queueAt g i .domain ≡ g .base + idAt g i
   pub free : (i : ℕ) → i < 16 → placeAt g i .live ≡ false → (idAt g i ≡ 0) × (isBlank (queueAt g i) ≡ true)
   pub sealed : g .sealed ≡ true → (i : ℕ) → i < 16 → placeAt g i .live ≡ false
+
+-- some place is live under this id
+abbrev pub IsLive : Groups → ℕ → Type 0
+IsLive g id = (i : ℕ) × (i < 16) × LiveAt g i × (idAt g i ≡ id)
+
+-- some live group answers yes; the question is put to its id and its queue
+abbrev pub SomeLive : Groups → (ℕ → Queue → Bool) → Type 0
+SomeLive g asks = (i : ℕ) × (i < 16) × LiveAt g i × (asks (idAt g i) (queueAt g i) ≡ true)
+
+-- every live group answers yes
+abbrev pub EveryLive : Groups → (ℕ → Queue → Bool) → Type 0
+EveryLive g asks = (i : ℕ) → i < 16 → LiveAt g i → asks (idAt g i) (queueAt g i) ≡ true
+
+-- nothing is left in a queue: no undo waiting, out or failed, and no pending stage
+pub record Nothing (q : Queue) : Type 0 where
+  pub waiting : waiting q ≡ []
+  pub issued : q .issued ≡ false
+  pub failed : q .failed ≡ false
+  pub settled : isSettled (q .phase) ≡ true
+  pub pending : isPending (q .phase) ≡ false

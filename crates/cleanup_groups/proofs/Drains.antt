@@ -1,0 +1,85 @@
+-- A group that was closed or sealed away had nothing left
+use Prim.Native.Nat.{ℕ, _<_}
+use mathlib.Core.Path.{_≡_, refl, sym, ap, _∙_}
+use mathlib.Core.Bool.{Bool, true, false, not, _&&_}
+use mathlib.Core.List.{List, []}
+use native.Mathlib.Omega.{arith}
+use borrow.Author.Tests.{not-true, not-false}
+use lib.ListN.{length}
+use Rattle.stage.specs.Choice.{if_then_else_}
+use Rattle.stage.specs.Phases.{isPending, isSettled}
+use Rattle.stage.proofs.Ways.{if-by, and-left, and-right, clash}
+use Rattle.queue_record.specs.WellFormed.{wellFormed}
+use Rattle.queue_record.specs.Waiting.{waiting}
+use Rattle.queue_record.specs.Refusals.{notDrained}
+use Rattle.queue_record.specs.declared.record.Selection.the-variants.{Free}
+use Rattle.queue_record.specs.declared.record.Queue.{Queue}
+use Rattle.queue_record.specs.declared.openings.Opened.{Opened}
+use Rattle.queue_record.specs.declared.openings.Opened.the-variants.{Open}
+use Rattle.queue_record.proofs.Fit.{free-no-marks}
+use Rattle.queue_questions.specs.Questions.{isEmptyTold}
+use Rattle.queue_questions.specs.declared.questions.Told.{Told}
+use Rattle.queue_questions.specs.declared.questions.Told.the-variants.{Yes, No}
+use Rattle.cleanup_queue.proofs.Upstream.{empty-means}
+use Rattle.group_record.specs.Record.{queueAt, freePlace, withPlace, sealing}
+use Rattle.group_record.specs.Questions.{isYes, drained}
+use Rattle.group_record.specs.Scan.{someYes}
+use Rattle.group_record.specs.WellFormed.{wellGrouped}
+use Rattle.group_record.specs.Ids.{spotOf}
+use Rattle.group_record.specs.declared.record.Groups.{Groups}
+use Rattle.group_record.specs.declared.questions.Question.the-variants.{Undrained}
+use Rattle.group_record.specs.declared.ids.Spot.{Spot}
+use Rattle.group_lives.specs.Openings.{unsealed}
+use Rattle.group_lives.specs.Endings.{refusedClose, removedAt, removed, sealedBy, sealedIn}
+use Rattle.group_lives.specs.declared.endings.Closed.{Closed}
+use Rattle.group_lives.specs.declared.endings.Closed.the-variants.{Done}
+use Rattle.group_lives.specs.declared.endings.CloseAnswer.{CloseAnswer}
+use Rattle.group_lives.proofs.Room.{unsealed-means}
+use Rattle.group_record.proofs.Spots.{spot-means}
+use Rattle.cleanup_groups.specs.Promises.{LiveAt, EveryLive, Nothing}
+use Rattle.cleanup_groups.proofs.ByCase.{by-spot, by-gate}
+use Rattle.cleanup_groups.proofs.Sounds.{sound-means}
+use Rattle.cleanup_groups.proofs.Keeps.{spot-live}
+use Rattle.cleanup_groups.proofs.Asked.{none-means}
+
+pub yes-is : (t : Told) → isYes t ≡ true → t ≡ Yes
+yes-is Yes h = refl
+yes-is No h = clash {b = false} h refl
+yes-is (Told.Refused n) h = clash {b = false} h refl
+
+-- a drained queue has no undo waiting, out or failed, and no pending stage
+pub drained-means : (q : Queue) → wellFormed q ≡ true → drained q ≡ true → Nothing q
+unfolding drained
+drained-means q w h =
+    let e : isEmptyTold q ≡ Yes = yes-is (isEmptyTold q) (and-left (isYes (isEmptyTold q)) (isSettled (q .phase) && not (isPending (q .phase))) h) in
+    let r : (isSettled (q .phase) && not (isPending (q .phase))) ≡ true = and-right (isYes (isEmptyTold q)) (isSettled (q .phase) && not (isPending (q .phase))) h in
+    let m = empty-means q e in
+    let n = free-no-marks q w (m .0) in
+    record {
+      waiting = m .1;
+      failed = n .0;
+      issued = n .1;
+      settled = and-left (isSettled (q .phase)) (not (isPending (q .phase))) r;
+      pending = not-true _ (and-right (isSettled (q .phase)) (not (isPending (q .phase))) r);
+    }
+
+-- ---- closing
+-- it was live, with nothing left, and its place is free
+pub close-means : (g : Groups) (id : ℕ) → length (g .places) ≡ 16 → removed g id .answer ≡ Done → (i : ℕ) × (spotOf g id ≡ Spot.At i) × Nothing (queueAt g i) × (removed g id .groups ≡ withPlace g i freePlace)
+unfolding removed
+close-means g id l =
+    by-spot (λ (r : CloseAnswer). r .answer ≡ Done → (i : ℕ) × (spotOf g id ≡ Spot.At i) × Nothing (queueAt g i) × (r .groups ≡ withPlace g i freePlace)) (removedAt g) (spotOf g id)
+    (λ _ _ h. let z : _≡_ {A = ℕ} 0 1 = cc in absurd (omega arith))
+    (λ i e. if-by (λ (r : CloseAnswer). r .answer ≡ Done → (j : ℕ) × (spotOf g id ≡ Spot.At j) × Nothing (queueAt g j) × (r .groups ≡ withPlace g j freePlace)) (not (drained (queueAt g i))) _ _
+    (λ _ h. let z : _≡_ {A = ℕ} 0 1 = cc in absurd (omega arith))
+    (λ d _. let s = spot-live g id i l e in (i, e, drained-means (queueAt g i) (sound-means g l (spot-means g id i e .0) .queues i (s .0) (s .1)) (not-false _ d), refl)))
+
+-- ---- sealing
+pub seal-drops : (g : Groups) → length (g .places) ≡ 16 → sealedIn g .answer ≡ Done → ((i : ℕ) → i < 16 → LiveAt g i → Nothing (queueAt g i)) × (sealedIn g .groups ≡ sealing g)
+unfolding sealedIn
+seal-drops g l =
+    by-gate (λ (r : CloseAnswer). r .answer ≡ Done → ((i : ℕ) → i < 16 → LiveAt g i → Nothing (queueAt g i)) × (r .groups ≡ sealing g)) (sealedBy g) (unsealed g)
+    (λ _ _ h. let z : _≡_ {A = ℕ} 0 1 = cc in absurd (omega arith))
+    (λ u. if-by (λ (r : CloseAnswer). r .answer ≡ Done → ((i : ℕ) → i < 16 → LiveAt g i → Nothing (queueAt g i)) × (r .groups ≡ sealing g)) (someYes g Undrained []) _ _
+    (λ _ h. let z : _≡_ {A = ℕ} 0 1 = cc in absurd (omega arith))
+    (λ d _. (λ i k a. drained-means (queueAt g i) (sound-means g l (unsealed-means g u .0) .queues i k a) (not-false _ (not-true _ (none-means g l Undrained [] (λ _ _. refl) d i k a))), refl)))

@@ -1,0 +1,29 @@
+-- What each answer of the groups says: document 01's number of refusal, 0 for done, and the values with it. Answers that are
+-- the queue's own (register, pop, complete, ..) say what they say there
+use mathlib.Core.List.{[], _∷_}
+use Rattle.queue_record.specs.Refusals.{done}
+use Rattle.cleanup_queue.specs.Answers.{Said, says}
+use Rattle.group_record.specs.declared.ids.Got.{Got}
+use Rattle.group_questions.specs.declared.whole.LenTold.{LenTold}
+use Rattle.group_lives.specs.declared.openings.Added.{Added}
+use Rattle.group_lives.specs.declared.endings.Closed.{Closed}
+
+-- an opening: the id
+abbrev pub addedSays : Added → Said
+addedSays (Added.Id id) = says done (id ∷ [])
+addedSays (Added.Refused n) = says n []
+
+-- close and seal have no value
+abbrev pub closedSays : Closed → Said
+closedSays Closed.Done = says done []
+closedSays (Closed.Refused n) = says n []
+
+-- how many groups are live
+abbrev pub lenSays : LenTold → Said
+lenSays (LenTold.Live n) = says done (n ∷ [])
+lenSays (LenTold.Refused n) = says n []
+
+-- get: the queue stands beside the answer
+abbrev pub gotSays : Got → Said
+gotSays Got.Group = says done []
+gotSays (Got.Refused n) = says n []

@@ -1,0 +1,58 @@
+-- The refusals of the groups' calls in document 01's order, each with when it is given: "Groups"
+use Prim.Native.Nat.{ℕ}
+use mathlib.Core.Bool.{Bool, true, false, not}
+use mathlib.Core.List.{List, [], _∷_}
+use lib.Dec.{leb, ltb}
+use lib.ListN.{length}
+use Rattle.queue_record.specs.Refusals.{broken, noGroup, groupsFull, sealed, notDrained, tooManyBindings, noId}
+use Rattle.queue_record.specs.declared.search.Found.{Found}
+use Rattle.queue_record.specs.declared.search.Found.the-variants.{At, Missing}
+use Rattle.cleanup_queue.specs.Orders.{Due, due}
+use Rattle.group_record.specs.Record.{queueAt}
+use Rattle.group_record.specs.Questions.{drained}
+use Rattle.group_record.specs.Scan.{firstYes, someYes}
+use Rattle.group_record.specs.WellFormed.{lastBase, ids, wellGrouped}
+use Rattle.group_record.specs.declared.record.Groups.{Groups}
+use Rattle.group_record.specs.declared.questions.Question.the-variants.{Free, Holds, Undrained}
+
+-- a new record 19
+abbrev pub newOrder : ℕ → List Due
+newOrder base = due noId (ltb lastBase base) ∷ []
+
+-- open checks 1, 12, 14, 11, 19
+abbrev pub openOrder : Groups → List ℕ → List Due
+openOrder g bindings =
+    due broken (not (wellGrouped g)) ∷
+    due sealed (g .sealed) ∷
+    due tooManyBindings (ltb 16 (length bindings)) ∷
+    due groupsFull (not (someYes g Free [])) ∷
+    due noId (leb ids (g .next)) ∷
+    []
+
+-- calls by id check 1, 10
+abbrev pub idOrder : Groups → ℕ → List Due
+idOrder g id =
+    due broken (not (wellGrouped g)) ∷
+    due noGroup (not (someYes g (Holds id) [])) ∷
+    []
+
+-- the group that was found is not drained
+abbrev pub undrainedAt : Groups → Found → Bool
+undrainedAt g Missing = false
+undrainedAt g (At i) = not (drained (queueAt g i))
+
+-- close checks 1, 10, 13
+abbrev pub closeOrder : Groups → ℕ → List Due
+closeOrder g id =
+    due broken (not (wellGrouped g)) ∷
+    due noGroup (not (someYes g (Holds id) [])) ∷
+    due notDrained (undrainedAt g (firstYes g (Holds id) [])) ∷
+    []
+
+-- seal checks 1, 12, 13
+abbrev pub sealOrder : Groups → List Due
+sealOrder g =
+    due broken (not (wellGrouped g)) ∷
+    due sealed (g .sealed) ∷
+    due notDrained (someYes g Undrained []) ∷
+    []
