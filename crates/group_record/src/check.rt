@@ -8,7 +8,7 @@ ghost use mathlib.Core.Path.{_≡_};
 ghost use lib.ListN.{drop};
 ghost use Rattle.group_record.specs.WellFormed.{clashes, distinctIds, sealedFits, wellGrouped};
 
-// The largest base to which every id can be added.
+// The largest base to which every id, and the id past the last one, can be added.
 pub const LAST_BASE: u64 = 18446744073709486079;
 
 // The id past the last one.
