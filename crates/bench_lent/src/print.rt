@@ -95,7 +95,7 @@ fn yes_or_no(holds: bool) {
 fn is_selected(selection: Selection) -> bool {
     match selection {
         Selection::Free => false,
-        Selection::Of(t) => true,
+        Selection::Of(_) => true,
     }
 }
 

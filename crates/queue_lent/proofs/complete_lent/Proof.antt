@@ -2,7 +2,7 @@
 -- What it has in common with `pop_lent` is in `proofs/Lending.antt`. All that it knows of `complete` is that `complete` meets its contract.
 -- When `Queue` gains or loses a field, or a field changes its type: no line changes, here or in `Lending.antt`. No line names a field of `Queue`, and the record goes in and out whole.
 -- When `Completed` gains a variant, or `Ticket` a field: no line changes.
--- When `CompleteAnswer` gains a field or changes their order: `is-answer` and `is-queue` (`.0` is the first field, `.1 .0` the second), and `sub ! 0` and `sub ! 1` in the two lines below "`*q = back.queue; back.answer`".
+-- When `CompleteAnswer` gains a field behind its two: no line changes. When its two change places: `is-answer` and `is-queue` (`.0` is the first field, `.1 .0` the second), and `sub ! 0` and `sub ! 1` in the two lines below "`*q = back.queue; back.answer`".
 -- When `complete` gains a parameter: `stayed`, the module's parameters, `x`, `at`, `to`, `exits` and `f-walks`, and `passed` of `Lending.antt`, gain an entry, and in `walk` one `alloc1`, one `pass1`, one operand and one `free1` are added, and each position of `_1` and `_0` rises by 2.
 -- Assumes nothing.
 use mathlib.Core.Path.{_≡_, refl, ap}

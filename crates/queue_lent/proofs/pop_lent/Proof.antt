@@ -2,7 +2,7 @@
 -- What it has in common with `complete_lent` is in `proofs/Lending.antt`. All that it knows of `pop` is that `pop` meets its contract.
 -- When `Queue` gains or loses a field, or a field changes its type: no line changes, here or in `Lending.antt`. No line names a field of `Queue`, and the record goes in and out whole.
 -- When `Popped` gains a variant, or `Ticket` a field: no line changes.
--- When `PopAnswer` gains a field or changes their order: `is-answer` and `is-queue` (`.0` is the first field, `.1 .0` the second), and `sub ! 0` and `sub ! 1` in the two lines below "`*q = out.queue; out.answer`".
+-- When `PopAnswer` gains a field behind its two: no line changes. When its two change places: `is-answer` and `is-queue` (`.0` is the first field, `.1 .0` the second), and `sub ! 0` and `sub ! 1` in the two lines below "`*q = out.queue; out.answer`".
 -- When `pop` gains a parameter: see `complete_lent`, which has three more.
 -- Assumes nothing.
 use mathlib.Core.Path.{_≡_, refl, ap}

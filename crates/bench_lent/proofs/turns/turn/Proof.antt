@@ -2,7 +2,7 @@
 -- The two loans are `lends-queue` and `returned` of `queue_lent`'s `proofs/Lending.antt`. All that it knows of the two callees is that they meet their contracts.
 -- When `Queue` or `Ticket` gains or loses a field, or `Popped` or `Completed` a variant: no line changes. No line names a field of `Queue`.
 -- When `TurnAnswer` gains a field or changes their order: `all` and `all-is`, and the operands of `agg`.
--- When one of the two calls gains a parameter: `stayed`, the modules' parameters, `a`, `at`, `exits`, `asks-…` and `f-walks` gain an entry, and in `walk` one `alloc1`, one `pass1`, one operand and one `free1` are added.
+-- When one of the two calls gains a parameter: `stayed`, the modules' parameters, `to-…`, `asks-…`, `a`, `at`, `exits` and `f-walks` gain an entry, and in `walk` one `alloc1`, one `pass1`, one operand and one `free1` are added, and the positions behind them rise by 2.
 -- Assumes nothing.
 use mathlib.Core.Path.{_≡_, refl, ap, _∙_}
 use Prim.Native.Nat.{ℕ, _<_, _^_}
