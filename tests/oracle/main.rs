@@ -1,17 +1,38 @@
 // main.rs: the commands of the test oracle, written from document 01 alone.
 
 mod agree;
+mod badlines;
+mod bounds;
+mod calls;
+mod clauses;
+mod console;
+mod coverage;
 mod damage;
+mod differ;
+mod edges;
+mod fields;
 mod fixed;
 mod frames;
 mod generate;
+mod groupedges;
+mod groups;
+mod handwork;
+mod histories;
 mod language;
 mod limits;
+mod logs;
+mod maker;
+mod questions;
 mod queue;
 mod random;
+mod readings;
 mod replay;
 mod rows;
+mod scripts;
 mod selftest;
+mod shrink;
+mod situations;
+mod spoiled;
 mod text;
 
 use random::Random;
@@ -24,7 +45,12 @@ oracle fixed TEXTS WANT
 oracle one < TEXT
 oracle answers TEXTS GOT
 oracle compare TEXTS WANT GOT
-oracle selftest";
+oracle selftest
+oracle console < SCRIPT
+oracle script SEED CALLS SCRIPT WANT
+oracle differ SCRIPT WANT GOT
+oracle coverage SEED CALLS
+oracle shrink SCRIPT PROGRAM ARGS..";
 
 type Outcome = Result<(), String>;
 
@@ -155,6 +181,39 @@ fn one() -> Outcome {
     std::io::stdout().write_all(&text::answer(&bytes)).map_err(|error| error.to_string())
 }
 
+fn console() -> Outcome {
+    let mut script = Vec::new();
+    std::io::stdin().read_to_end(&mut script).map_err(|error| error.to_string())?;
+    let out = console::output(&script);
+    std::io::stdout().write_all(&out).map_err(|error| error.to_string())
+}
+
+fn script(seed: u64, calls: u64, to: &str, want: &str) -> Outcome {
+    let made = scripts::made(seed, calls, false);
+    to_file(to, &made.script)?;
+    to_file(want, &made.want)?;
+    let lines = made.script.iter().filter(|byte| **byte == b'\n').count() + 1;
+    eprintln!("{} calls, {lines} lines, {} bytes of output", made.calls, made.want.len());
+    Ok(())
+}
+
+fn differ(script: &str, want: &str, got: &str) -> Outcome {
+    let told = differ::compare(&from_file(script)?, &from_file(want)?, &from_file(got)?)?;
+    println!("{told}");
+    Ok(())
+}
+
+fn coverage(seed: u64, calls: u64) -> Outcome {
+    let table = scripts::made(seed, calls, true).seen.table()?;
+    println!("{table}");
+    Ok(())
+}
+
+fn shrink(script: &str, program: &str, args: &[&str]) -> Outcome {
+    let shortest = shrink::shortest(&from_file(script)?, program, args)?;
+    std::io::stdout().write_all(&shortest).map_err(|error| error.to_string())
+}
+
 // Plays the program under test, so that compare itself can be tried.
 fn answers(texts: &str, got: &str) -> Outcome {
     let file = from_file(texts)?;
@@ -185,6 +244,11 @@ fn run(words: &[&str]) -> Outcome {
         ["answers", from, got] => answers(from, got),
         ["compare", from, want, got] => compare(from, want, got),
         ["selftest"] => selftest(),
+        ["console"] => console(),
+        ["script", seed, calls, to, want] => script(number(seed)?, number(calls)?, to, want),
+        ["differ", from, want, got] => differ(from, want, got),
+        ["coverage", seed, calls] => coverage(number(seed)?, number(calls)?),
+        ["shrink", from, program, args @ ..] => shrink(from, program, args),
         _ => Err(USAGE.to_string()),
     }
 }

@@ -1,6 +1,7 @@
 // selftest.rs: hand-worked cases from document 01: the marked cases, the phases, the refusals.
 
 use crate::fixed;
+use crate::handwork;
 use crate::language;
 use crate::queue::*;
 use crate::rows::TOP;
@@ -197,6 +198,12 @@ fn rules_alone(tally: &mut Tally) {
     }
 }
 
+fn console_scripts(tally: &mut Tally) {
+    for (name, right) in handwork::all() {
+        tally.check(&name, right);
+    }
+}
+
 // How many checks were done, or the names of those that failed.
 pub fn run() -> Result<u64, Vec<String>> {
     let mut tally = Tally { done: 0, wrong: Vec::new() };
@@ -209,6 +216,7 @@ pub fn run() -> Result<u64, Vec<String>> {
     broken_records(&mut tally);
     fixed_answers(&mut tally);
     rules_alone(&mut tally);
+    console_scripts(&mut tally);
     if tally.wrong.is_empty() {
         Ok(tally.done)
     } else {
