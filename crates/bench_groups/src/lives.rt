@@ -40,6 +40,7 @@ fn failed_and_done(g: Groups) -> Groups {
     calls::pop(6, failed, 1);
     calls::told(6, b"can_retry_all", group_questions::can_retry_all(failed));
     let again = calls::retry(6, failed, 1);
+    calls::close(6, again, 1);
     let out = calls::pop(6, again, 1);
     calls::complete(6, out, 1, ticket(0), 1, 71);
     let done = calls::complete(6, out, 1, ticket(1), 0, 0);

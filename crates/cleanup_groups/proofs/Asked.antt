@@ -2,17 +2,16 @@
 use Prim.Native.Nat.{ℕ, _<_}
 use mathlib.Core.Path.{_≡_, refl, sym, ap, _∙_}
 use mathlib.Core.Bool.{Bool, true, false, not, _&&_, _||_}
-use mathlib.Core.List.{List, [], _∷_}
+use mathlib.Core.List.{List, []}
 use native.Mathlib.Omega.{arith}
 use borrow.Author.Tests.{eq-eqb, ne-eqb, eqb-true, not-true, not-false}
-use lib.Dec.{eqb}
 use lib.ListN.{length}
 use Rattle.stage.specs.Choice.{if_then_else_}
 use Rattle.stage.specs.Phases.{isPending}
-use Rattle.stage.proofs.Ways.{hit, miss, pass, clash, and-left, and-right}
+use Rattle.stage.proofs.Ways.{miss, pass, clash, and-left, and-right}
 use Rattle.queue_record.specs.Refusals.{broken}
 use Rattle.queue_record.specs.declared.record.Queue.{Queue}
-use Rattle.queue_questions.specs.Questions.{yesOrNo, canRetryTold, canFinishTold}
+use Rattle.queue_questions.specs.Questions.{yesOrNo, canFinishTold}
 use Rattle.queue_questions.specs.declared.questions.Told.{Told}
 use Rattle.queue_questions.specs.declared.questions.Told.the-variants.{Yes}
 use Rattle.group_record.specs.Record.{placeAt, queueAt}
@@ -21,8 +20,8 @@ use Rattle.group_record.specs.Scan.{someYes}
 use Rattle.group_record.specs.WellFormed.{wellGrouped}
 use Rattle.group_record.specs.declared.record.Groups.{Groups}
 use Rattle.group_record.specs.declared.questions.Question.{Question}
-use Rattle.group_record.specs.declared.questions.Question.the-variants.{Live, Holds, Pending, Issued, Failed, Stuck, Unfinished, Undrained}
-use Rattle.group_questions.specs.Whole.{toldOf, containsTold, isEmptyOf, hasPendingOf, hasIssuedOf, hasFailedOf, retriesAll, canRetryAllOf, canFinishOf, canSealOf}
+use Rattle.group_record.specs.declared.questions.Question.the-variants.{Holds, Pending, Issued, Failed, Stuck, Unfinished, Undrained}
+use Rattle.group_questions.specs.Whole.{toldOf, containsTold, hasPendingOf, hasIssuedOf, hasFailedOf, retriesAll, canRetryAllOf, canFinishOf, canSealOf}
 use Rattle.cleanup_groups.specs.Promises.{LiveAt, idAt, IsLive, SomeLive, EveryLive}
 use Rattle.cleanup_groups.proofs.Every.{none-each, each-none, some-one, one-some}
 use Rattle.cleanup_groups.proofs.Sounds.{says-live, says-free, says-no}

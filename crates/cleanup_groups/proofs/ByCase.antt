@@ -1,13 +1,12 @@
 -- Each call by what it leaves: the record as it was, one queue stepped, a group more, a group less, none, or all retried
-use Prim.Native.Nat.{ℕ, _+_, _<_}
-use mathlib.Core.Path.{_≡_, refl, sym, ap, _∙_}
-use mathlib.Core.Bool.{Bool, true, false, not}
+use Prim.Native.Nat.{ℕ, _+_}
+use mathlib.Core.Path.{_≡_, refl}
+use mathlib.Core.Bool.{true, false, not}
 use mathlib.Core.List.{List, []}
 use native.Mathlib.Omega.{arith}
-use borrow.Author.Tests.{not-true, not-false, ltb-false}
+use borrow.Author.Tests.{not-false, ltb-false}
 use lib.Dec.{ltb}
 use lib.ListN.{length}
-use Rattle.stage.specs.Choice.{if_then_else_}
 use Rattle.stage.proofs.Ways.{if-by}
 use Rattle.queue_record.specs.WellFormed.{wellFormed}
 use Rattle.queue_record.specs.Openings.{scopeOf, iteratorOf, iteratorOpened}

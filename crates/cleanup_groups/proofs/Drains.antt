@@ -1,42 +1,35 @@
 -- A group that was closed or sealed away had nothing left
 use Prim.Native.Nat.{ℕ, _<_}
-use mathlib.Core.Path.{_≡_, refl, sym, ap, _∙_}
-use mathlib.Core.Bool.{Bool, true, false, not, _&&_}
-use mathlib.Core.List.{List, []}
+use mathlib.Core.Path.{_≡_, refl, ap, _∙_}
+use mathlib.Core.Bool.{true, false, not, _&&_}
+use mathlib.Core.List.{[]}
 use native.Mathlib.Omega.{arith}
 use borrow.Author.Tests.{not-true, not-false}
 use lib.ListN.{length}
-use Rattle.stage.specs.Choice.{if_then_else_}
 use Rattle.stage.specs.Phases.{isPending, isSettled}
-use Rattle.stage.proofs.Ways.{if-by, and-left, and-right, clash}
+use Rattle.stage.proofs.Ways.{if-by, pass, and-left, and-right, clash}
 use Rattle.queue_record.specs.WellFormed.{wellFormed}
 use Rattle.queue_record.specs.Waiting.{waiting}
-use Rattle.queue_record.specs.Refusals.{notDrained}
-use Rattle.queue_record.specs.declared.record.Selection.the-variants.{Free}
 use Rattle.queue_record.specs.declared.record.Queue.{Queue}
-use Rattle.queue_record.specs.declared.openings.Opened.{Opened}
-use Rattle.queue_record.specs.declared.openings.Opened.the-variants.{Open}
 use Rattle.queue_record.proofs.Fit.{free-no-marks}
 use Rattle.queue_questions.specs.Questions.{isEmptyTold}
 use Rattle.queue_questions.specs.declared.questions.Told.{Told}
 use Rattle.queue_questions.specs.declared.questions.Told.the-variants.{Yes, No}
-use Rattle.cleanup_queue.proofs.Upstream.{empty-means}
+use Rattle.cleanup_queue.proofs.Upstream.{empty-means, means-empty, empty-holds-nothing}
 use Rattle.group_record.specs.Record.{queueAt, freePlace, withPlace, sealing}
 use Rattle.group_record.specs.Questions.{isYes, drained}
 use Rattle.group_record.specs.Scan.{someYes}
-use Rattle.group_record.specs.WellFormed.{wellGrouped}
 use Rattle.group_record.specs.Ids.{spotOf}
 use Rattle.group_record.specs.declared.record.Groups.{Groups}
 use Rattle.group_record.specs.declared.questions.Question.the-variants.{Undrained}
 use Rattle.group_record.specs.declared.ids.Spot.{Spot}
 use Rattle.group_lives.specs.Openings.{unsealed}
-use Rattle.group_lives.specs.Endings.{refusedClose, removedAt, removed, sealedBy, sealedIn}
-use Rattle.group_lives.specs.declared.endings.Closed.{Closed}
+use Rattle.group_lives.specs.Endings.{removedAt, removed, sealedBy, sealedIn}
 use Rattle.group_lives.specs.declared.endings.Closed.the-variants.{Done}
 use Rattle.group_lives.specs.declared.endings.CloseAnswer.{CloseAnswer}
 use Rattle.group_lives.proofs.Room.{unsealed-means}
 use Rattle.group_record.proofs.Spots.{spot-means}
-use Rattle.cleanup_groups.specs.Promises.{LiveAt, EveryLive, Nothing}
+use Rattle.cleanup_groups.specs.Promises.{LiveAt, Nothing}
 use Rattle.cleanup_groups.proofs.ByCase.{by-spot, by-gate}
 use Rattle.cleanup_groups.proofs.Sounds.{sound-means}
 use Rattle.cleanup_groups.proofs.Keeps.{spot-live}
@@ -56,12 +49,19 @@ drained-means q w h =
     let m = empty-means q e in
     let n = free-no-marks q w (m .0) in
     record {
+      selection = m .0;
+      slots = empty-holds-nothing q e .1;
       waiting = m .1;
       failed = n .0;
       issued = n .1;
       settled = and-left (isSettled (q .phase)) (not (isPending (q .phase))) r;
       pending = not-true _ (and-right (isSettled (q .phase)) (not (isPending (q .phase))) r);
     }
+
+-- and a queue with nothing left is drained
+pub means-drained : (q : Queue) → wellFormed q ≡ true → Nothing q → drained q ≡ true
+unfolding drained
+means-drained q w n = pass _ (ap isYes (means-empty q w (n .selection) (n .waiting))) ∙ (pass _ (n .settled) ∙ ap not (n .pending))
 
 -- ---- closing
 -- it was live, with nothing left, and its place is free

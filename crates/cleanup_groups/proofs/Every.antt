@@ -1,6 +1,6 @@
 -- A question to all places, read place by place
 use Prim.Native.Nat.{ℕ, zero, suc, _+_, _<_}
-use mathlib.Core.Path.{_≡_, refl, sym, ap, _∙_}
+use mathlib.Core.Path.{_≡_, refl}
 use mathlib.Core.Bool.{Bool, true, false}
 use mathlib.Core.List.{List, [], _∷_}
 use native.Mathlib.Omega.{arith}
@@ -55,3 +55,13 @@ module _ (says : Place → Bool) where
       go : (b : Bool) → isThere (firstFrom says 0 ps) ≡ b → isThere (firstFrom says 0 ps) ≡ true
       go true e = e
       go false e = clash h (none-each 0 ps e i l)
+
+  -- and none before it does
+  pub found-lowest : (k : ℕ) (ps : List Place) (i : ℕ) → firstFrom says k ps ≡ At i → (m : ℕ) → k + m < i → says (getD ps m nowhere) ≡ false
+  found-lowest k [] i h m l = let z : _≡_ {A = ℕ} 0 1 = cc in absurd (omega arith)
+  found-lowest k (p ∷ ps) i h m l = go (says p) refl h (found-lowest (suc k) ps i) m l
+    where
+      go : (b : Bool) → says p ≡ b → (if b then At k else firstFrom says (suc k) ps) ≡ At i → (firstFrom says (suc k) ps ≡ At i → (m : ℕ) → suc k + m < i → says (getD ps m nowhere) ≡ false) → (m : ℕ) → k + m < i → says (getD (p ∷ ps) m nowhere) ≡ false
+      go true e h r m l = let z : k ≡ i = cc in absurd (omega arith)
+      go false e h r zero l = e
+      go false e h r (suc m) l = r h m (omega arith)

@@ -1,25 +1,23 @@
 -- Ids: next only rises, an id that is gone never comes back, and domains of live groups differ
 use Prim.Native.Nat.{ℕ, _+_, _<_, _≤_}
-use mathlib.Core.Path.{_≡_, refl, sym, ap, _∙_}
+use mathlib.Core.Path.{_≡_, refl, sym, _∙_}
 use mathlib.Core.Bool.{true, false}
 use mathlib.Core.Logic.{_⊎_, inl, inr, ⊎-elim}
 use mathlib.Core.List.{List, [], _∷_}
 use native.Mathlib.Omega.{arith}
 use lib.ListN.{length}
 use Rattle.stage.proofs.Ways.{clash}
-use Rattle.queue_record.specs.declared.record.Queue.{Queue}
 use Rattle.cleanup_queue.specs.Runs as queue
-use Rattle.group_record.specs.Record.{placeAt, queueAt, freePlace, livePlace, holding, withPlace, withQueue, opening, sealing}
+use Rattle.group_record.specs.Record.{placeAt, queueAt, freePlace, livePlace, holding, withPlace, sealing}
 use Rattle.group_record.specs.WellFormed.{wellGrouped}
 use Rattle.group_record.specs.declared.record.Place.{Place}
 use Rattle.group_record.specs.declared.record.Groups.{Groups}
-use Rattle.group_steps.specs.Rounds.{allRetried}
 use Rattle.cleanup_groups.specs.Promises.{LiveAt, idAt, Sound, IsLive}
 use Rattle.cleanup_groups.specs.Runs.{Call, after, afterAll}
 use Rattle.cleanup_groups.proofs.ByCase.{call-by}
 use Rattle.cleanup_groups.proofs.Placed.{by-place}
 use Rattle.cleanup_groups.proofs.Sounds.{sound-means}
-use Rattle.cleanup_groups.proofs.Keeps.{spot-live, room-free, all-free-sound, round-live, round-id, call-whole, call-keeps}
+use Rattle.cleanup_groups.proofs.Keeps.{spot-live, room-free, all-free-sound, round-live, round-id, call-whole}
 
 -- ---- next
 pub next-rises : (g : Groups) (c : Call) → g .next ≤ after g c .next

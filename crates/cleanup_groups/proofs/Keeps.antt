@@ -1,7 +1,7 @@
 -- Every call keeps a well-formed group record well formed
 use Prim.Native.Nat.{ℕ, zero, suc, _+_, _<_, _≤_}
 use mathlib.Core.Path.{_≡_, refl, sym, ap, _∙_, subst}
-use mathlib.Core.Bool.{Bool, true, false, not, _&&_}
+use mathlib.Core.Bool.{Bool, true, false, _&&_}
 use mathlib.Core.List.{List, [], _∷_}
 use native.Mathlib.Omega.{arith}
 use borrow.Author.Tests.{eqb-true, ltb-false}
@@ -12,7 +12,6 @@ use Rattle.stage.proofs.Ways.{if-by, and-left, and-right, clash}
 use Rattle.queue_record.specs.WellFormed.{wellFormed}
 use Rattle.queue_record.specs.Openings.{scopeOf, blank}
 use Rattle.queue_record.specs.declared.record.Queue.{Queue}
-use Rattle.queue_record.specs.declared.openings.Opened.the-variants.{Open}
 use Rattle.queue_record.specs.declared.search.Found.the-variants.{At}
 use Rattle.queue_record.proofs.Opened.{scope-well-formed}
 use Rattle.queue_steps.specs.Attempts.{retried}
@@ -21,7 +20,7 @@ use Rattle.cleanup_queue.proofs.Sizes as sizes
 use Rattle.cleanup_queue.proofs.Upstream.{call-keeps-domain}
 use Rattle.group_record.specs.Record.{nowhere, placeAt, queueAt, freePlace, livePlace, holding, withPlace, withQueue, withNext, emptyOf, opening, sealing}
 use Rattle.group_record.specs.Blank.{isBlank}
-use Rattle.group_record.specs.Questions.{asksLive, asksFree, asksOf}
+use Rattle.group_record.specs.Questions.{asksOf}
 use Rattle.group_record.specs.Scan.{firstYes}
 use Rattle.group_record.specs.WellFormed.{lastBase, ids, wellGrouped}
 use Rattle.group_record.specs.Ids.{spotOf}
@@ -31,16 +30,16 @@ use Rattle.group_record.specs.declared.questions.Question.{Question}
 use Rattle.group_record.specs.declared.questions.Question.the-variants.{Free, Holds}
 use Rattle.group_record.specs.declared.ids.Spot.{Spot}
 use Rattle.group_record.proofs.Spots.{spot-means}
-use Rattle.group_lives.specs.Openings.{newOf, unsealed, roomOf}
+use Rattle.group_lives.specs.Openings.{newOf, roomOf}
 use Rattle.group_lives.specs.declared.openings.NewAnswer.{NewAnswer}
 use Rattle.group_lives.proofs.Room.{unsealed-means, room-means}
 use Rattle.group_steps.specs.Rounds.{retriedPlace, retriedPlaces, allRetried}
 use Rattle.cleanup_groups.specs.Promises.{LiveAt, idAt, Sound}
 use Rattle.cleanup_groups.specs.Runs.{Call, after, afterAll}
-use Rattle.cleanup_groups.proofs.Every.{found-says}
+use Rattle.cleanup_groups.proofs.Every.{found-says, found-lowest}
 use Rattle.cleanup_groups.proofs.Sounds.{sound-means, means-sound}
 use Rattle.cleanup_groups.proofs.ByCase.{New, call-by}
-use Rattle.cleanup_groups.proofs.Placed.{FitsIn, replaced, raised, same-length}
+use Rattle.cleanup_groups.proofs.Placed.{replaced, raised, same-length}
 
 -- ---- what is found
 pub found-at : (g : Groups) (question : Question) (i : ℕ) → length (g .places) ≡ 16 → firstYes g question [] ≡ At i → (i < 16) × (asksOf question [] (placeAt g i) ≡ true)
@@ -60,14 +59,25 @@ free-yes true h = clash {b = false} h refl
 free-yes false h = refl
 
 -- where an id is found it is live
-pub spot-live : (g : Groups) (id i : ℕ) → length (g .places) ≡ 16 → spotOf g id ≡ Spot.At i → (i < 16) × LiveAt g i × (idAt g i ≡ id)
-spot-live g id i l e =
-    let w = found-at g (Holds id) i l (spot-means g id i e .1) in
+pub holds-means : (g : Groups) (id i : ℕ) → length (g .places) ≡ 16 → firstYes g (Holds id) [] ≡ At i → (i < 16) × LiveAt g i × (idAt g i ≡ id)
+holds-means g id i l e =
+    let w = found-at g (Holds id) i l e in
     let v = live-yes (placeAt g i .live) (eqb (idAt g i) id) (w .1) in
     (w .0, v .0, eqb-true _ _ (v .1))
 
+pub spot-live : (g : Groups) (id i : ℕ) → length (g .places) ≡ 16 → spotOf g id ≡ Spot.At i → (i < 16) × LiveAt g i × (idAt g i ≡ id)
+spot-live g id i l e = holds-means g id i l (spot-means g id i e .1)
+
 pub room-free : (g : Groups) (i : ℕ) → length (g .places) ≡ 16 → roomOf g ≡ Spot.At i → (i < 16) × (placeAt g i .live ≡ false)
 room-free g i l e = let w = found-at g Free i l (room-means g i e .0) in (w .0, free-yes (placeAt g i .live) (w .1))
+
+not-free : (b : Bool) → (if b then false else true) ≡ false → b ≡ true
+not-free true h = refl
+not-free false h = clash {b = true} refl h
+
+-- every place below it is live: it is the lowest free one
+pub room-lowest : (g : Groups) (i : ℕ) → roomOf g ≡ Spot.At i → (j : ℕ) → j < i → LiveAt g j
+room-lowest g i e j k = not-free (placeAt g j .live) (found-lowest (asksOf Free []) 0 (g .places) i (room-means g i e .0) j (omega arith))
 
 -- ---- one queue steps
 module _ (g : Groups) (l : length (g .places) ≡ 16) (s : Sound g) where

@@ -9,5 +9,10 @@ pub mod Drains
 pub mod Others
 pub mod Rounds
 pub mod Numbers
+pub mod NumbersById
 pub mod Refusals
 pub mod Blanks
+pub mod Upstream
+pub mod Frames
+pub mod Live
+pub mod Room

@@ -1,15 +1,13 @@
--- Each call answers the first refusal that is due, and 0 where none is; a refusal leaves the record
+-- Openings, close and seal answer the first refusal that is due, and 0 where none is
 use Prim.Native.Nat.{ℕ}
-use mathlib.Core.Path.{_≡_, refl, sym, ap, _∙_}
+use mathlib.Core.Path.{_≡_, refl}
 use mathlib.Core.Bool.{Bool, true, false, not}
 use mathlib.Core.List.{List, [], _∷_}
-use native.Mathlib.Omega.{arith}
 use lib.Dec.{leb, ltb}
 use lib.ListN.{length}
 use Rattle.stage.specs.Choice.{if_then_else_}
-use Rattle.stage.proofs.Ways.{if-by}
-use Rattle.queue_record.specs.Refusals.{broken, noGroup, sealed, tooManyBindings, noId}
-use Rattle.queue_record.specs.Openings.{scopeOf, iteratorOpened}
+use Rattle.queue_record.specs.Refusals.{broken, noGroup, sealed, noId}
+use Rattle.queue_record.specs.Openings.{iteratorOpened}
 use Rattle.queue_record.specs.declared.record.Queue.{Queue}
 use Rattle.queue_record.specs.declared.openings.Opened.{Opened}
 use Rattle.queue_record.specs.declared.openings.Opened.the-variants.{Open}
@@ -17,7 +15,7 @@ use Rattle.queue_record.specs.declared.openings.OpenAnswer.{OpenAnswer}
 use Rattle.queue_record.specs.declared.search.Found.{Found}
 use Rattle.queue_record.specs.declared.search.Found.the-variants.{At, Missing}
 use Rattle.cleanup_queue.specs.Answers.{openedSays}
-use Rattle.cleanup_queue.specs.Orders.{Due, due, firstDue}
+use Rattle.cleanup_queue.specs.Orders.{due, firstDue}
 use Rattle.group_record.specs.Record.{queueAt}
 use Rattle.group_record.specs.Questions.{drained}
 use Rattle.group_record.specs.Scan.{isThere, firstYes, someYes}
@@ -26,17 +24,16 @@ use Rattle.group_record.specs.Ids.{spotAt, spotOf, gotAt, got}
 use Rattle.group_record.specs.declared.record.Groups.{Groups}
 use Rattle.group_record.specs.declared.ids.Spot.{Spot}
 use Rattle.group_record.specs.declared.questions.Question.the-variants.{Free, Holds, Undrained}
-use Rattle.group_lives.specs.Openings.{newOf, unsealed, nextDomain, roomAt, roomOf, addedAt, added, addedScopeBy, addedScope, addedQueue, addedIteratorBy, addedIterator}
+use Rattle.group_lives.specs.Openings.{newOf, unsealed, roomAt, addedAt, added, addedScopeBy, addedScope, addedQueue, addedIteratorBy, addedIterator}
 use Rattle.group_lives.specs.Endings.{removedAt, removed, sealedBy, sealedIn}
 use Rattle.group_lives.specs.declared.openings.NewAnswer.{NewAnswer}
 use Rattle.group_lives.specs.declared.openings.AddAnswer.{AddAnswer}
 use Rattle.group_lives.specs.declared.endings.CloseAnswer.{CloseAnswer}
 use Rattle.cleanup_groups.specs.Answers.{addedSays, closedSays, gotSays}
 use Rattle.cleanup_groups.specs.Orders.{newOrder, openOrder, idOrder, undrainedAt, closeOrder, sealOrder}
-use Rattle.cleanup_groups.proofs.ByCase.{by-spot, by-gate}
 
 -- one test more in front: what it refuses with is due exactly if it holds
-due-if : {A : Type 0} (number : A → ℕ) (b : Bool) (x y : A) {k m : ℕ} → number x ≡ k → number y ≡ m → number (if b then x else y) ≡ (if b then k else m)
+pub due-if : {A : Type 0} (number : A → ℕ) (b : Bool) (x y : A) {k m : ℕ} → number x ≡ k → number y ≡ m → number (if b then x else y) ≡ (if b then k else m)
 due-if number true x y p q = p
 due-if number false x y p q = q
 

@@ -1,14 +1,14 @@
 -- Other groups stay: a call on one id leaves every place that is live under another
-use Prim.Native.Nat.{ℕ, _<_}
+use Prim.Native.Nat.{ℕ}
 use mathlib.Core.Path.{_≡_, refl, sym, ap, _∙_}
-use mathlib.Core.Bool.{true, false, not}
-use mathlib.Core.List.{List, []}
+use mathlib.Core.Bool.{not}
+use mathlib.Core.List.{List}
 use lib.ListN.{length}
 use Rattle.stage.proofs.Ways.{if-by, clash}
 use Rattle.queue_record.specs.Openings.{iteratorOpened}
 use Rattle.queue_record.specs.declared.record.Queue.{Queue}
 use Rattle.queue_record.specs.declared.record.Ticket.{Ticket}
-use Rattle.group_record.specs.Record.{placeAt, queueAt, freePlace, livePlace, holding, withPlace}
+use Rattle.group_record.specs.Record.{placeAt, queueAt, livePlace, withPlace}
 use Rattle.group_record.specs.Questions.{drained}
 use Rattle.group_record.specs.Ids.{spotOf}
 use Rattle.group_record.specs.declared.record.Place.{Place}

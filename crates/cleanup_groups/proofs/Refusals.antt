@@ -1,7 +1,7 @@
 -- A refusal leaves the whole record, and register, land and complete return the number given
 use Prim.Native.Nat.{ℕ, zero, suc}
-use mathlib.Core.Path.{_≡_, refl, sym, ap, _∙_}
-use mathlib.Core.Bool.{Bool, true, false, not}
+use mathlib.Core.Path.{_≡_, refl, ap, _∙_}
+use mathlib.Core.Bool.{false, not}
 use mathlib.Core.List.{List, [], _∷_}
 use native.Mathlib.Omega.{arith}
 use lib.ListN.{getD, set}
@@ -17,7 +17,7 @@ use Rattle.queue_steps.specs.declared.attempts.Popped.{Popped}
 use Rattle.queue_steps.specs.declared.attempts.Completed.{Completed}
 use Rattle.queue_steps.specs.declared.attempts.Retried.{Retried}
 use Rattle.cleanup_queue.proofs.Numbers as queue
-use Rattle.group_record.specs.Record.{nowhere, placeAt, queueAt, withQueue, withPlaces}
+use Rattle.group_record.specs.Record.{nowhere, queueAt, withQueue, withPlaces}
 use Rattle.group_record.specs.Questions.{drained}
 use Rattle.group_record.specs.Scan.{someYes}
 use Rattle.group_record.specs.Ids.{spotOf}

@@ -1,22 +1,19 @@
 -- retry_all retries every failed group, or changes nothing
 use Prim.Native.Nat.{ℕ, _<_}
-use mathlib.Core.Path.{_≡_, refl, sym, ap, _∙_}
-use mathlib.Core.Bool.{Bool, true, false, not, _&&_}
-use mathlib.Core.List.{[]}
+use mathlib.Core.Path.{_≡_, refl, sym, _∙_}
+use mathlib.Core.Bool.{true, false, not}
 use native.Mathlib.Omega.{arith}
 use borrow.Author.Tests.{not-true, not-false}
 use lib.ListN.{length}
-use Rattle.stage.proofs.Ways.{if-by, and-left, and-right, pass, clash}
+use Rattle.stage.proofs.Ways.{if-by, pass}
 use Rattle.queue_record.specs.declared.record.Ticket.{Ticket}
-use Rattle.queue_record.specs.declared.record.Queue.{Queue}
 use Rattle.queue_steps.specs.Attempts.{retried}
 use Rattle.queue_steps.specs.declared.attempts.Retried.the-variants.{Again}
 use Rattle.queue_questions.specs.Questions.{canRetryTold}
-use Rattle.queue_questions.specs.declared.questions.Told.{Told}
-use Rattle.queue_questions.specs.declared.questions.Told.the-variants.{Yes, No}
+use Rattle.queue_questions.specs.declared.questions.Told.the-variants.{Yes}
 use Rattle.cleanup_queue.proofs.Upstream.{told-retries, retry-renews}
-use Rattle.group_record.specs.Record.{placeAt, queueAt, holding}
-use Rattle.group_record.specs.Questions.{isYes, stuck}
+use Rattle.group_record.specs.Record.{queueAt}
+use Rattle.group_record.specs.Questions.{stuck}
 use Rattle.group_record.specs.WellFormed.{wellGrouped}
 use Rattle.group_record.specs.declared.record.Place.{Place}
 use Rattle.group_record.specs.declared.record.Groups.{Groups}

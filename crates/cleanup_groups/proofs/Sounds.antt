@@ -5,14 +5,14 @@ use mathlib.Core.Bool.{Bool, true, false, not, _&&_}
 use mathlib.Core.List.{List, [], _∷_}
 use native.Mathlib.Omega.{arith}
 use borrow.Author.Tests.{eq-eqb, ne-eqb, eqb-true, leb-false, lt-leb, ltb-true, ltb-false, not-true, not-false}
-use lib.Dec.{eqb, leb, ltb}
+use lib.Dec.{eqb, ltb}
 use lib.ListN.{length, getD}
 use Rattle.stage.specs.Choice.{if_then_else_, implies}
 use Rattle.stage.proofs.Ways.{hit, miss, pass, stop, and-left, and-right, clash, if-by}
 use Rattle.queue_record.specs.WellFormed.{wellFormed}
 use Rattle.group_record.specs.Record.{nowhere, placeAt, queueAt}
 use Rattle.group_record.specs.Blank.{isBlank}
-use Rattle.group_record.specs.Questions.{belongsTo, littered, asksLive, asksFree, asksOf}
+use Rattle.group_record.specs.Questions.{belongsTo, asksLive, asksFree, asksOf}
 use Rattle.group_record.specs.Scan.{firstFrom, isThere, someYes}
 use Rattle.group_record.specs.WellFormed.{clashes, distinctIds, queuesFit, freeFits, sealedFits, wellGrouped}
 use Rattle.group_record.specs.declared.record.Place.{Place}
@@ -20,7 +20,7 @@ use Rattle.group_record.specs.declared.record.Groups.{Groups}
 use Rattle.group_record.specs.declared.questions.Question.{Question}
 use Rattle.group_record.specs.declared.questions.Question.the-variants.{Littered, Live, Holds, PastNext, Foreign}
 use Rattle.group_record.proofs.Fit.{Fit, fit, fits}
-use Rattle.cleanup_groups.specs.Promises.{LiveAt, idAt, Whole, Sound}
+use Rattle.cleanup_groups.specs.Promises.{LiveAt, idAt, Sound}
 use Rattle.cleanup_groups.proofs.Every.{none-each, each-none}
 
 -- ---- one place, by its mark

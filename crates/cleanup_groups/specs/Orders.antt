@@ -1,10 +1,11 @@
 -- The refusals of the groups' calls in document 01's order, each with when it is given: "Groups"
 use Prim.Native.Nat.{ℕ}
-use mathlib.Core.Bool.{Bool, true, false, not}
+use mathlib.Core.Bool.{Bool, false, not}
 use mathlib.Core.List.{List, [], _∷_}
 use lib.Dec.{leb, ltb}
 use lib.ListN.{length}
 use Rattle.queue_record.specs.Refusals.{broken, noGroup, groupsFull, sealed, notDrained, tooManyBindings, noId}
+use Rattle.queue_record.specs.declared.record.Queue.{Queue}
 use Rattle.queue_record.specs.declared.search.Found.{Found}
 use Rattle.queue_record.specs.declared.search.Found.the-variants.{At, Missing}
 use Rattle.cleanup_queue.specs.Orders.{Due, due}
@@ -35,6 +36,22 @@ idOrder g id =
     due broken (not (wellGrouped g)) ∷
     due noGroup (not (someYes g (Holds id) [])) ∷
     []
+
+-- what the queue that was found checks
+abbrev pub orderAt : Groups → (Queue → List Due) → Found → List Due
+orderAt g order Missing = []
+orderAt g order (At i) = order (queueAt g i)
+
+-- other calls check 1, 10, then as the queue
+abbrev pub stepOrder : Groups → ℕ → (Queue → List Due) → List Due
+stepOrder g id order =
+    due broken (not (wellGrouped g)) ∷
+    due noGroup (not (someYes g (Holds id) [])) ∷
+    orderAt g order (firstYes g (Holds id) [])
+
+-- calls on the whole record check 1 alone
+abbrev pub recordOrder : Groups → List Due
+recordOrder g = due broken (not (wellGrouped g)) ∷ []
 
 -- the group that was found is not drained
 abbrev pub undrainedAt : Groups → Found → Bool

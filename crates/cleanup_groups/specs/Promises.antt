@@ -3,13 +3,13 @@ use Prim.Native.Nat.{ℕ, _+_, _<_, _≤_}
 use mathlib.Core.Path.{_≡_}
 use mathlib.Core.Bool.{Bool, true, false}
 use Rattle.queue_record.specs.WellFormed.{wellFormed}
-use Rattle.queue_record.specs.Record.{Sized}
 use Rattle.queue_record.specs.declared.record.Queue.{Queue}
-use Rattle.group_record.specs.Record.{placeAt, queueAt, freePlace}
+use Rattle.queue_record.specs.declared.record.Selection.the-variants.{Free}
+use Rattle.queue_steps.specs.Attempts.{slot}
+use Rattle.group_record.specs.Record.{placeAt, queueAt}
 use Rattle.group_record.specs.declared.record.Groups.{Groups}
 use Rattle.group_record.specs.Blank.{isBlank}
 use Rattle.group_record.specs.WellFormed.{lastBase, ids}
-use lib.ListN.{length}
 use mathlib.Core.List.{[]}
 use Rattle.stage.specs.Phases.{isPending, isSettled}
 use Rattle.queue_record.specs.Waiting.{waiting}
@@ -20,11 +20,6 @@ LiveAt g i = placeAt g i .live ≡ true
 
 abbrev pub idAt : Groups → ℕ → ℕ
 idAt g i = placeAt g i .id
-
--- the sixteen places are there, and their queues' arrays have their places: true of every value that code can hold
-pub record Whole (g : Groups) : Type 0 where
-  pub places : length (g .places) ≡ 16
-  pub queues : (i : ℕ) → i < 16 → Sized (queueAt g i)
 
 -- document 01's well-formed group record, read place by place (sound-means, means-sound: it is the check's answer)
 pub record Sound (g : Groups) : Type 0 where
@@ -49,10 +44,33 @@ SomeLive g asks = (i : ℕ) × (i < 16) × LiveAt g i × (asks (idAt g i) (queue
 abbrev pub EveryLive : Groups → (ℕ → Queue → Bool) → Type 0
 EveryLive g asks = (i : ℕ) → i < 16 → LiveAt g i → asks (idAt g i) (queueAt g i) ≡ true
 
--- nothing is left in a queue: no undo waiting, out or failed, and no pending stage
+-- nothing is left in a queue: no undo in any slot, selected, out or failed, and no pending stage
 pub record Nothing (q : Queue) : Type 0 where
+  pub selection : q .selection ≡ Free
+  pub slots : (k : ℕ) → slot q k ≡ 0
   pub waiting : waiting q ≡ []
   pub issued : q .issued ≡ false
   pub failed : q .failed ≡ false
   pub settled : isSettled (q .phase) ≡ true
   pub pending : isPending (q .phase) ≡ false
+
+-- the record h after g, in which the queue q was opened under the id n
+pub record AddedAs (g : Groups) (n : ℕ) (q : Queue) (h : Groups) : Type 0 where
+  pub id : n ≡ g .next
+  pub next : h .next ≡ g .next + 1
+  pub unsealed : h .sealed ≡ false
+  pub place : ℕ
+  pub inside : place < 16
+  pub was : placeAt g place .live ≡ false
+  pub lowest : (j : ℕ) → j < place → LiveAt g j
+  pub live : LiveAt h place
+  pub named : idAt h place ≡ n
+  pub queue : queueAt h place ≡ q
+
+-- the record h is g with other queues: what groups there are stays
+pub record Frame (g h : Groups) : Type 0 where
+  pub base : h .base ≡ g .base
+  pub next : h .next ≡ g .next
+  pub sealed : h .sealed ≡ g .sealed
+  pub marks : (i : ℕ) → placeAt h i .live ≡ placeAt g i .live
+  pub ids : (i : ℕ) → idAt h i ≡ idAt g i

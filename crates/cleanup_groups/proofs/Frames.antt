@@ -1,0 +1,90 @@
+-- A call on an id changes one queue and nothing else of the record: base, next, seal, marks and ids stay
+use Prim.Native.Nat.{ℕ, _<_}
+use mathlib.Core.Path.{_≡_, refl, sym, ap, _∙_, subst}
+use mathlib.Core.List.{List}
+use lib.ListN.{length}
+use Rattle.queue_record.specs.declared.record.Queue.{Queue}
+use Rattle.queue_record.specs.declared.record.Ticket.{Ticket}
+use Rattle.group_record.specs.Record.{placeAt, holding, withQueue, sealing}
+use Rattle.group_record.specs.Ids.{spotOf}
+use Rattle.group_record.specs.declared.record.Place.{Place}
+use Rattle.group_record.specs.declared.record.Groups.{Groups}
+use Rattle.group_record.specs.declared.ids.Spot.{Spot}
+use Rattle.group_steps.specs.Births.{registeredAt, registeredIn, landedAt, landedIn}
+use Rattle.group_steps.specs.Attempts.{poppedAt, poppedIn, completedAt, completedIn, retriedAt, retriedIn}
+use Rattle.group_steps.specs.Stages.{admittedAt, admittedIn, admittedAtWithout, admittedInWithout, endedAt, endedIn, cancelledAt, cancelledIn}
+use Rattle.group_steps.specs.Rounds.{allRetried}
+use Rattle.cleanup_groups.specs.Promises.{idAt, IsLive, Frame}
+use Rattle.cleanup_groups.specs.Runs.{Call, after}
+use Rattle.cleanup_groups.proofs.ByCase.{by-spot, call-by}
+use Rattle.cleanup_groups.proofs.Placed.{by-place}
+use Rattle.cleanup_groups.proofs.Keeps.{spot-live, round-live, round-id}
+
+pub frame-same : (g : Groups) → Frame g g
+frame-same g = record { base = refl; next = refl; sealed = refl; marks = λ _. refl; ids = λ _. refl }
+
+pub queue-frame : (g : Groups) (i : ℕ) (q : Queue) → length (g .places) ≡ 16 → i < 16 → Frame g (withQueue g i q)
+queue-frame g i q l k = record {
+  base = refl;
+  next = refl;
+  sealed = refl;
+  marks = λ j. by-place g i (holding (placeAt g i) q) l k (λ (p : Place). p .live ≡ placeAt g j .live) j (λ e. ap (λ (m : ℕ). placeAt g m .live) (sym e)) (λ _. refl);
+  ids = λ j. by-place g i (holding (placeAt g i) q) l k (λ (p : Place). p .id ≡ idAt g j) j (λ e. ap (λ (m : ℕ). idAt g m) (sym e)) (λ _. refl);
+}
+
+-- the same ids are live
+pub frame-live : (g h : Groups) (id : ℕ) → Frame g h → IsLive g id → IsLive h id
+frame-live g h id f w = (w .0, w .1, f .marks (w .0) ∙ w .2, f .ids (w .0) ∙ w .3)
+
+pub live-frame : (g h : Groups) (id : ℕ) → Frame g h → IsLive h id → IsLive g id
+live-frame g h id f w = (w .0, w .1, sym (f .marks (w .0)) ∙ w .2, sym (f .ids (w .0)) ∙ w .3)
+
+module _ (g : Groups) (l : length (g .places) ≡ 16) (id : ℕ) where
+  -- whichever call: refused it leaves the record, else it leaves another queue at the id's place
+  framed : (f : Spot → Groups) (q : ℕ → Queue) → ((n : ℕ) → f (Spot.Refused n) ≡ g) → ((i : ℕ) → f (Spot.At i) ≡ withQueue g i (q i)) → Frame g (f (spotOf g id))
+  framed f q r s = by-spot (λ (h : Groups). Frame g h) f (spotOf g id) (λ n _. subst (Frame g) (sym (r n)) (frame-same g)) (λ i e. subst (Frame g) (sym (s i)) (queue-frame g i (q i) l (spot-live g id i l e .0)))
+
+  pub register-frame : (n : ℕ) → Frame g (registeredIn g id n .groups)
+  unfolding registeredIn
+  register-frame n = framed (λ s. registeredAt g n s .groups) _ (λ _. refl) (λ _. refl)
+
+  pub land-frame : (n : ℕ) → Frame g (landedIn g id n .groups)
+  unfolding landedIn
+  land-frame n = framed (λ s. landedAt g n s .groups) _ (λ _. refl) (λ _. refl)
+
+  pub pop-frame : Frame g (poppedIn g id .groups)
+  unfolding poppedIn
+  pop-frame = framed (λ s. poppedAt g s .groups) _ (λ _. refl) (λ _. refl)
+
+  pub complete-frame : (t : Ticket) (outcome kept : ℕ) → Frame g (completedIn g id t outcome kept .groups)
+  unfolding completedIn
+  complete-frame t outcome kept = framed (λ s. completedAt g t outcome kept s .groups) _ (λ _. refl) (λ _. refl)
+
+  pub retry-frame : Frame g (retriedIn g id .groups)
+  unfolding retriedIn
+  retry-frame = framed (λ s. retriedAt g s .groups) _ (λ _. refl) (λ _. refl)
+
+  pub admit-frame : (target : List ℕ) → Frame g (admittedIn g id target .groups)
+  unfolding admittedIn
+  admit-frame target = framed (λ s. admittedAt g target s .groups) _ (λ _. refl) (λ _. refl)
+
+  pub admit-without-frame : Frame g (admittedInWithout g id .groups)
+  unfolding admittedInWithout
+  admit-without-frame = framed (λ s. admittedAtWithout g s .groups) _ (λ _. refl) (λ _. refl)
+
+  pub end-frame : Frame g (endedIn g id .groups)
+  unfolding endedIn
+  end-frame = framed (λ s. endedAt g s .groups) _ (λ _. refl) (λ _. refl)
+
+  pub cancel-frame : Frame g (cancelledIn g id .groups)
+  unfolding cancelledIn
+  cancel-frame = framed (λ s. cancelledAt g s .groups) _ (λ _. refl) (λ _. refl)
+
+-- a round of retries changes queues alone
+pub round-frame : (g : Groups) → Frame g (allRetried g)
+round-frame g = record { base = refl; next = refl; sealed = refl; marks = round-live g; ids = round-id g }
+
+-- the base is the record's for good
+pub base-stays : (g : Groups) (c : Call) → after g c .base ≡ g .base
+unfolding sealing
+base-stays g c = call-by (λ (h : Groups). h .base ≡ g .base) g refl (λ _ _ _ _. refl) (λ _ _ _ _ _. refl) (λ _ _ _ _. refl) (λ _ _. refl) (λ _ _. refl) c
