@@ -19,7 +19,7 @@ fn full() {
     let h = calls::scope(1, g);
     let seventeen = [4u64; 17];
     calls::iterator(1, h, &seventeen);
-    calls::told(1, b"can_add", group_questions::can_add(h));
+    calls::told(1, b"can_add", group_survey::can_add(h));
 }
 
 fn last_base() {
@@ -38,7 +38,7 @@ fn last_ids() {
     let h = calls::scope(4, g);
     calls::domain(4, h, 65535);
     let after = calls::scope(4, h);
-    calls::told(4, b"can_add", group_questions::can_add(after));
+    calls::told(4, b"can_add", group_survey::can_add(after));
 }
 
 // The lowest free place is taken, and the closed id does not come back.
@@ -53,7 +53,7 @@ fn freed() {
     print::start(b'G', 5, b"place");
     print::number(place.id);
     print::line_end();
-    calls::told(5, b"contains", group_questions::contains(again, 2));
+    calls::told(5, b"contains", group_survey::contains(again, 2));
     calls::register(5, again, 2, 71);
 }
 

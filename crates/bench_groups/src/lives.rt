@@ -28,17 +28,17 @@ fn one_out(g: Groups) -> Groups {
         b"iterator_empty",
         group_questions::group_is_empty(out, 2),
     );
-    calls::told(6, b"issued", group_questions::has_issued(out));
-    calls::told(6, b"pending", group_questions::has_pending(out));
+    calls::told(6, b"issued", group_survey::has_issued(out));
+    calls::told(6, b"pending", group_survey::has_pending(out));
     calls::close(6, out, 1)
 }
 
 fn failed_and_done(g: Groups) -> Groups {
     let failed = calls::complete(6, g, 1, ticket(0), 1, 71);
-    calls::told(6, b"failed", group_questions::has_failed(failed));
+    calls::told(6, b"failed", group_survey::has_failed(failed));
     calls::close(6, failed, 1);
     calls::pop(6, failed, 1);
-    calls::told(6, b"can_retry_all", group_questions::can_retry_all(failed));
+    calls::told(6, b"can_retry_all", group_survey::can_retry_all(failed));
     let again = calls::retry(6, failed, 1);
     calls::close(6, again, 1);
     let out = calls::pop(6, again, 1);
@@ -51,14 +51,10 @@ fn failed_and_done(g: Groups) -> Groups {
 fn finished(g: Groups) -> Groups {
     let target = [9u64, 4];
     calls::close(6, g, 2);
-    calls::told(6, b"can_finish", group_questions::can_finish(g, &target));
-    calls::told(
-        6,
-        b"can_finish",
-        group_questions::can_finish(g, &target[..1]),
-    );
+    calls::told(6, b"can_finish", group_survey::can_finish(g, &target));
+    calls::told(6, b"can_finish", group_survey::can_finish(g, &target[..1]));
     calls::seal(6, g);
-    let cancelled = group_steps::cancel(g, 2);
+    let cancelled = group_stages::cancel(g, 2);
     calls::close(6, cancelled.groups, 2)
 }
 

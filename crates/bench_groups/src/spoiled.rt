@@ -3,7 +3,7 @@ use crate::calls;
 use group_record::Groups;
 
 fn ask(case: u64, g: Groups) {
-    calls::told(case, b"can_seal", group_questions::can_seal(g));
+    calls::told(case, b"can_seal", group_survey::can_seal(g));
     calls::register(case, g, 9, 71);
     calls::close(case, g, 9);
     calls::scope(case, g);

@@ -20,21 +20,21 @@ use Rattle.cleanup_queue.specs.Runs as queue
 use Rattle.group_record.specs.Record.{queueAt, freePlace, withPlace, withQueue, opening, sealing}
 use Rattle.group_record.specs.Questions.{drained}
 use Rattle.group_record.specs.Scan.{someYes}
-use Rattle.group_record.specs.WellFormed.{wellGrouped}
-use Rattle.group_record.specs.Ids.{spotOf}
+use Rattle.group_check.specs.WellFormed.{wellGrouped}
+use Rattle.group_check.specs.Ids.{spotOf}
 use Rattle.group_record.specs.declared.record.Groups.{Groups}
 use Rattle.group_record.specs.declared.questions.Question.the-variants.{Undrained}
-use Rattle.group_record.specs.declared.ids.Spot.{Spot}
-use Rattle.group_questions.specs.Whole.{retriesAll}
+use Rattle.group_check.specs.declared.ids.Spot.{Spot}
+use Rattle.group_survey.specs.Whole.{retriesAll}
 use Rattle.group_lives.specs.Openings.{unsealed, roomOf, addedAt, added, addedScopeBy, addedScope, addedQueue, addedIteratorBy, addedIterator}
 use Rattle.group_lives.specs.Endings.{removedAt, removed, sealedBy, sealedIn}
 use Rattle.group_lives.specs.declared.openings.AddAnswer.{AddAnswer}
 use Rattle.group_lives.specs.declared.endings.CloseAnswer.{CloseAnswer}
 use Rattle.group_steps.specs.Births.{registeredAt, registeredIn, landedAt, landedIn}
 use Rattle.group_steps.specs.Attempts.{poppedAt, poppedIn, completedAt, completedIn, retriedAt, retriedIn}
-use Rattle.group_steps.specs.Stages.{admittedAt, admittedIn, admittedAtWithout, admittedInWithout, endedAt, endedIn, cancelledAt, cancelledIn}
-use Rattle.group_steps.specs.Rounds.{allRetried, retriedAll}
-use Rattle.group_steps.specs.declared.rounds.RetryAllAnswer.{RetryAllAnswer}
+use Rattle.group_stages.specs.Stages.{admittedAt, admittedIn, admittedAtWithout, admittedInWithout, endedAt, endedIn, cancelledAt, cancelledIn}
+use Rattle.group_rounds.specs.Rounds.{allRetried, retriedAll}
+use Rattle.group_rounds.specs.declared.rounds.RetryAllAnswer.{RetryAllAnswer}
 use Rattle.cleanup_groups.specs.Runs.{Call, addScope, addIterator, remove, seal, register, land, pop, complete, retry, admit, admitWithout, end, cancel, retryAll, after}
 
 -- by where an id is: refused, or at a place

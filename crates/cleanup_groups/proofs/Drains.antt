@@ -19,16 +19,16 @@ use Rattle.cleanup_queue.proofs.Upstream.{empty-means, means-empty, empty-holds
 use Rattle.group_record.specs.Record.{queueAt, freePlace, withPlace, sealing}
 use Rattle.group_record.specs.Questions.{isYes, drained}
 use Rattle.group_record.specs.Scan.{someYes}
-use Rattle.group_record.specs.Ids.{spotOf}
+use Rattle.group_check.specs.Ids.{spotOf}
 use Rattle.group_record.specs.declared.record.Groups.{Groups}
 use Rattle.group_record.specs.declared.questions.Question.the-variants.{Undrained}
-use Rattle.group_record.specs.declared.ids.Spot.{Spot}
+use Rattle.group_check.specs.declared.ids.Spot.{Spot}
 use Rattle.group_lives.specs.Openings.{unsealed}
 use Rattle.group_lives.specs.Endings.{removedAt, removed, sealedBy, sealedIn}
 use Rattle.group_lives.specs.declared.endings.Closed.the-variants.{Done}
 use Rattle.group_lives.specs.declared.endings.CloseAnswer.{CloseAnswer}
 use Rattle.group_lives.proofs.Room.{unsealed-means}
-use Rattle.group_record.proofs.Spots.{spot-means}
+use Rattle.group_check.proofs.Spots.{spot-means}
 use Rattle.cleanup_groups.specs.Promises.{LiveAt, Nothing}
 use Rattle.cleanup_groups.proofs.ByCase.{by-spot, by-gate}
 use Rattle.cleanup_groups.proofs.Sounds.{sound-means}

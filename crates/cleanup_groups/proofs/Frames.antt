@@ -6,14 +6,14 @@ use lib.ListN.{length}
 use Rattle.queue_record.specs.declared.record.Queue.{Queue}
 use Rattle.queue_record.specs.declared.record.Ticket.{Ticket}
 use Rattle.group_record.specs.Record.{placeAt, holding, withQueue, sealing}
-use Rattle.group_record.specs.Ids.{spotOf}
+use Rattle.group_check.specs.Ids.{spotOf}
 use Rattle.group_record.specs.declared.record.Place.{Place}
 use Rattle.group_record.specs.declared.record.Groups.{Groups}
-use Rattle.group_record.specs.declared.ids.Spot.{Spot}
+use Rattle.group_check.specs.declared.ids.Spot.{Spot}
 use Rattle.group_steps.specs.Births.{registeredAt, registeredIn, landedAt, landedIn}
 use Rattle.group_steps.specs.Attempts.{poppedAt, poppedIn, completedAt, completedIn, retriedAt, retriedIn}
-use Rattle.group_steps.specs.Stages.{admittedAt, admittedIn, admittedAtWithout, admittedInWithout, endedAt, endedIn, cancelledAt, cancelledIn}
-use Rattle.group_steps.specs.Rounds.{allRetried}
+use Rattle.group_stages.specs.Stages.{admittedAt, admittedIn, admittedAtWithout, admittedInWithout, endedAt, endedIn, cancelledAt, cancelledIn}
+use Rattle.group_rounds.specs.Rounds.{allRetried}
 use Rattle.cleanup_groups.specs.Promises.{idAt, IsLive, Frame}
 use Rattle.cleanup_groups.specs.Runs.{Call, after}
 use Rattle.cleanup_groups.proofs.ByCase.{by-spot, call-by}

@@ -9,7 +9,7 @@ use lib.ListN.{length}
 use Rattle.stage.proofs.Ways.{clash}
 use Rattle.cleanup_queue.specs.Runs as queue
 use Rattle.group_record.specs.Record.{placeAt, queueAt, freePlace, livePlace, holding, withPlace, sealing}
-use Rattle.group_record.specs.WellFormed.{wellGrouped}
+use Rattle.group_check.specs.WellFormed.{wellGrouped}
 use Rattle.group_record.specs.declared.record.Place.{Place}
 use Rattle.group_record.specs.declared.record.Groups.{Groups}
 use Rattle.cleanup_groups.specs.Promises.{LiveAt, idAt, Sound, IsLive}

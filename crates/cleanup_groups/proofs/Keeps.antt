@@ -22,18 +22,18 @@ use Rattle.group_record.specs.Record.{nowhere, placeAt, queueAt, freePlace, liv
 use Rattle.group_record.specs.Blank.{isBlank}
 use Rattle.group_record.specs.Questions.{asksOf}
 use Rattle.group_record.specs.Scan.{firstYes}
-use Rattle.group_record.specs.WellFormed.{lastBase, ids, wellGrouped}
-use Rattle.group_record.specs.Ids.{spotOf}
+use Rattle.group_check.specs.WellFormed.{lastBase, ids, wellGrouped}
+use Rattle.group_check.specs.Ids.{spotOf}
 use Rattle.group_record.specs.declared.record.Place.{Place}
 use Rattle.group_record.specs.declared.record.Groups.{Groups}
 use Rattle.group_record.specs.declared.questions.Question.{Question}
 use Rattle.group_record.specs.declared.questions.Question.the-variants.{Free, Holds}
-use Rattle.group_record.specs.declared.ids.Spot.{Spot}
-use Rattle.group_record.proofs.Spots.{spot-means}
+use Rattle.group_check.specs.declared.ids.Spot.{Spot}
+use Rattle.group_check.proofs.Spots.{spot-means}
 use Rattle.group_lives.specs.Openings.{newOf, roomOf}
 use Rattle.group_lives.specs.declared.openings.NewAnswer.{NewAnswer}
 use Rattle.group_lives.proofs.Room.{unsealed-means, room-means}
-use Rattle.group_steps.specs.Rounds.{retriedPlace, retriedPlaces, allRetried}
+use Rattle.group_rounds.specs.Rounds.{retriedPlace, retriedPlaces, allRetried}
 use Rattle.cleanup_groups.specs.Promises.{LiveAt, idAt, Sound}
 use Rattle.cleanup_groups.specs.Runs.{Call, after, afterAll}
 use Rattle.cleanup_groups.proofs.Every.{found-says, found-lowest}

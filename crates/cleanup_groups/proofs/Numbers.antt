@@ -19,10 +19,10 @@ use Rattle.cleanup_queue.specs.Orders.{due, firstDue}
 use Rattle.group_record.specs.Record.{queueAt}
 use Rattle.group_record.specs.Questions.{drained}
 use Rattle.group_record.specs.Scan.{isThere, firstYes, someYes}
-use Rattle.group_record.specs.WellFormed.{lastBase, ids, wellGrouped}
-use Rattle.group_record.specs.Ids.{spotAt, spotOf, gotAt, got}
+use Rattle.group_check.specs.WellFormed.{lastBase, ids, wellGrouped}
+use Rattle.group_check.specs.Ids.{spotAt, spotOf, gotAt, got}
 use Rattle.group_record.specs.declared.record.Groups.{Groups}
-use Rattle.group_record.specs.declared.ids.Spot.{Spot}
+use Rattle.group_check.specs.declared.ids.Spot.{Spot}
 use Rattle.group_record.specs.declared.questions.Question.the-variants.{Free, Holds, Undrained}
 use Rattle.group_lives.specs.Openings.{newOf, unsealed, roomAt, addedAt, added, addedScopeBy, addedScope, addedQueue, addedIteratorBy, addedIterator}
 use Rattle.group_lives.specs.Endings.{removedAt, removed, sealedBy, sealedIn}

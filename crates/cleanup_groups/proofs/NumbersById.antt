@@ -18,26 +18,26 @@ use Rattle.cleanup_queue.specs.Orders.{Due, firstDue, registerOrder, landOrder,
 use Rattle.cleanup_queue.proofs.Numbers as queue
 use Rattle.group_record.specs.Record.{queueAt}
 use Rattle.group_record.specs.Scan.{isThere, firstYes}
-use Rattle.group_record.specs.WellFormed.{wellGrouped}
-use Rattle.group_record.specs.Ids.{spotAt, spotOf, gotAt, got}
+use Rattle.group_check.specs.WellFormed.{wellGrouped}
+use Rattle.group_check.specs.Ids.{spotAt, spotOf, gotAt, got}
 use Rattle.group_record.specs.declared.record.Groups.{Groups}
-use Rattle.group_record.specs.declared.ids.Spot.{Spot}
-use Rattle.group_record.specs.declared.ids.GetAnswer.{GetAnswer}
+use Rattle.group_check.specs.declared.ids.Spot.{Spot}
+use Rattle.group_check.specs.declared.ids.GetAnswer.{GetAnswer}
 use Rattle.group_record.specs.declared.questions.Question.the-variants.{Holds}
 use Rattle.group_questions.specs.ById.{toldBy, domainBy, domainIn, negation, isCancelledIn, acceptsIn}
-use Rattle.group_questions.specs.Whole.{toldOf, retriesAll, lenOf}
-use Rattle.group_questions.specs.declared.whole.LenTold.{LenTold}
+use Rattle.group_survey.specs.Whole.{toldOf, retriesAll, lenOf}
+use Rattle.group_survey.specs.declared.whole.LenTold.{LenTold}
 use Rattle.group_steps.specs.Births.{registeredAt, registeredIn, landedAt, landedIn}
 use Rattle.group_steps.specs.Attempts.{poppedAt, poppedIn, completedAt, completedIn, retriedAt, retriedIn}
-use Rattle.group_steps.specs.Stages.{admittedAt, admittedIn, admittedAtWithout, admittedInWithout, endedAt, endedIn, cancelledAt, cancelledIn}
-use Rattle.group_steps.specs.Rounds.{retriedAll}
+use Rattle.group_stages.specs.Stages.{admittedAt, admittedIn, admittedAtWithout, admittedInWithout, endedAt, endedIn, cancelledAt, cancelledIn}
+use Rattle.group_rounds.specs.Rounds.{retriedAll}
 use Rattle.group_steps.specs.declared.births.GroupRegisterAnswer.{GroupRegisterAnswer}
 use Rattle.group_steps.specs.declared.attempts.GroupPopAnswer.{GroupPopAnswer}
 use Rattle.group_steps.specs.declared.attempts.GroupCompleteAnswer.{GroupCompleteAnswer}
 use Rattle.group_steps.specs.declared.attempts.GroupRetryAnswer.{GroupRetryAnswer}
-use Rattle.group_steps.specs.declared.stages.GroupStageAnswer.{GroupStageAnswer}
-use Rattle.group_steps.specs.declared.stages.GroupCancelAnswer.{GroupCancelAnswer}
-use Rattle.group_steps.specs.declared.rounds.RetryAllAnswer.{RetryAllAnswer}
+use Rattle.group_stages.specs.declared.stages.GroupStageAnswer.{GroupStageAnswer}
+use Rattle.group_stages.specs.declared.stages.GroupCancelAnswer.{GroupCancelAnswer}
+use Rattle.group_rounds.specs.declared.rounds.RetryAllAnswer.{RetryAllAnswer}
 use Rattle.cleanup_groups.specs.Answers.{lenSays}
 use Rattle.cleanup_groups.specs.Orders.{orderAt, stepOrder, recordOrder}
 use Rattle.cleanup_groups.proofs.Numbers.{due-if}

@@ -20,7 +20,7 @@ use Rattle.cleanup_queue.proofs.Numbers as queue
 use Rattle.group_record.specs.Record.{nowhere, queueAt, withQueue, withPlaces}
 use Rattle.group_record.specs.Questions.{drained}
 use Rattle.group_record.specs.Scan.{someYes}
-use Rattle.group_record.specs.Ids.{spotOf}
+use Rattle.group_check.specs.Ids.{spotOf}
 use Rattle.group_record.specs.declared.record.Place.{Place}
 use Rattle.group_record.specs.declared.record.Groups.{Groups}
 use Rattle.group_record.specs.declared.questions.Question.the-variants.{Undrained}
@@ -32,13 +32,13 @@ use Rattle.group_lives.specs.declared.endings.Closed.{Closed}
 use Rattle.group_lives.specs.declared.endings.CloseAnswer.{CloseAnswer}
 use Rattle.group_steps.specs.Births.{registeredAt, registeredIn, landedAt, landedIn}
 use Rattle.group_steps.specs.Attempts.{poppedAt, poppedIn, completedAt, completedIn, retriedAt, retriedIn}
-use Rattle.group_steps.specs.Stages.{admittedAt, admittedIn, admittedAtWithout, admittedInWithout, endedAt, endedIn, cancelledAt, cancelledIn}
+use Rattle.group_stages.specs.Stages.{admittedAt, admittedIn, admittedAtWithout, admittedInWithout, endedAt, endedIn, cancelledAt, cancelledIn}
 use Rattle.group_steps.specs.declared.births.GroupRegisterAnswer.{GroupRegisterAnswer}
 use Rattle.group_steps.specs.declared.attempts.GroupPopAnswer.{GroupPopAnswer}
 use Rattle.group_steps.specs.declared.attempts.GroupCompleteAnswer.{GroupCompleteAnswer}
 use Rattle.group_steps.specs.declared.attempts.GroupRetryAnswer.{GroupRetryAnswer}
-use Rattle.group_steps.specs.declared.stages.GroupStageAnswer.{GroupStageAnswer}
-use Rattle.group_steps.specs.declared.stages.GroupCancelAnswer.{GroupCancelAnswer}
+use Rattle.group_stages.specs.declared.stages.GroupStageAnswer.{GroupStageAnswer}
+use Rattle.group_stages.specs.declared.stages.GroupCancelAnswer.{GroupCancelAnswer}
 use Rattle.cleanup_groups.proofs.ByCase.{by-spot, by-gate}
 
 -- ---- a queue put back as it was changes nothing

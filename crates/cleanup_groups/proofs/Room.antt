@@ -18,14 +18,14 @@ use Rattle.queue_record.specs.declared.search.Found.{Found}
 use Rattle.queue_record.specs.declared.search.Found.the-variants.{At, Missing}
 use Rattle.queue_questions.specs.declared.questions.Told.the-variants.{Yes}
 use Rattle.group_record.specs.Record.{nowhere, placeAt, freePlace, livePlace, withPlace, opening}
-use Rattle.group_record.specs.Count.{liveCount}
+use Rattle.group_check.specs.Count.{liveCount}
 use Rattle.group_record.specs.Scan.{isThere, firstYes, someYes}
-use Rattle.group_record.specs.WellFormed.{ids, wellGrouped}
+use Rattle.group_check.specs.WellFormed.{ids, wellGrouped}
 use Rattle.group_record.specs.declared.record.Place.{Place}
 use Rattle.group_record.specs.declared.record.Groups.{Groups}
 use Rattle.group_record.specs.declared.questions.Question.the-variants.{Free, Live}
-use Rattle.group_record.specs.declared.ids.Spot.{Spot}
-use Rattle.group_questions.specs.Whole.{roomFor, canAddOf, isEmptyOf}
+use Rattle.group_check.specs.declared.ids.Spot.{Spot}
+use Rattle.group_survey.specs.Whole.{roomFor, canAddOf, isEmptyOf}
 use Rattle.group_lives.specs.Openings.{unsealed, nextDomain, roomAt, roomOf, addedAt, addedScopeBy, addedScope}
 use Rattle.group_lives.specs.declared.openings.Added.{Added}
 use Rattle.group_lives.specs.declared.openings.AddAnswer.{AddAnswer}

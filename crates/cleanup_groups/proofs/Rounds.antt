@@ -14,12 +14,12 @@ use Rattle.queue_questions.specs.declared.questions.Told.the-variants.{Yes}
 use Rattle.cleanup_queue.proofs.Upstream.{told-retries, retry-renews}
 use Rattle.group_record.specs.Record.{queueAt}
 use Rattle.group_record.specs.Questions.{stuck}
-use Rattle.group_record.specs.WellFormed.{wellGrouped}
+use Rattle.group_check.specs.WellFormed.{wellGrouped}
 use Rattle.group_record.specs.declared.record.Place.{Place}
 use Rattle.group_record.specs.declared.record.Groups.{Groups}
-use Rattle.group_questions.specs.Whole.{retriesAll}
-use Rattle.group_steps.specs.Rounds.{allRetried, retriedAll}
-use Rattle.group_steps.specs.declared.rounds.RetryAllAnswer.{RetryAllAnswer}
+use Rattle.group_survey.specs.Whole.{retriesAll}
+use Rattle.group_rounds.specs.Rounds.{allRetried, retriedAll}
+use Rattle.group_rounds.specs.declared.rounds.RetryAllAnswer.{RetryAllAnswer}
 use Rattle.cleanup_groups.specs.Promises.{LiveAt}
 use Rattle.cleanup_groups.proofs.Drains.{yes-is}
 use Rattle.cleanup_groups.proofs.Asked.{retries-means}

@@ -21,16 +21,16 @@ use Rattle.cleanup_queue.proofs.Upstream.{retry-leaves, call-keeps-domain}
 use Rattle.cleanup_queue.specs.Runs as queue
 use Rattle.group_record.specs.Record.{placeAt, queueAt, livePlace, emptyOf, sealing}
 use Rattle.group_record.specs.Questions.{finishes}
-use Rattle.group_record.specs.WellFormed.{lastBase}
+use Rattle.group_check.specs.WellFormed.{lastBase}
 use Rattle.group_record.specs.declared.record.Place.{Place}
 use Rattle.group_record.specs.declared.record.Groups.{Groups}
-use Rattle.group_questions.specs.Whole.{canFinishOf}
+use Rattle.group_survey.specs.Whole.{canFinishOf}
 use Rattle.group_lives.specs.Openings.{newOf, unsealed, nextDomain, roomOf, addedAt, added, addedScopeBy, addedScope, addedQueue, addedIteratorBy, addedIterator}
 use Rattle.group_lives.specs.declared.openings.NewAnswer.{NewAnswer}
 use Rattle.group_lives.proofs.Room.{unsealed-means}
 use Rattle.group_lives.specs.declared.openings.Added.{Added}
 use Rattle.group_lives.specs.declared.openings.AddAnswer.{AddAnswer}
-use Rattle.group_steps.specs.Rounds.{allRetried}
+use Rattle.group_rounds.specs.Rounds.{allRetried}
 use Rattle.cleanup_groups.specs.Promises.{LiveAt, idAt, AddedAs}
 use Rattle.cleanup_groups.proofs.ByCase.{by-spot, by-gate}
 use Rattle.cleanup_groups.proofs.Placed.{by-place, put-there}

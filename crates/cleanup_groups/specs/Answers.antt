@@ -3,8 +3,8 @@
 use mathlib.Core.List.{[], _∷_}
 use Rattle.queue_record.specs.Refusals.{done}
 use Rattle.cleanup_queue.specs.Answers.{Said, says}
-use Rattle.group_record.specs.declared.ids.Got.{Got}
-use Rattle.group_questions.specs.declared.whole.LenTold.{LenTold}
+use Rattle.group_check.specs.declared.ids.Got.{Got}
+use Rattle.group_survey.specs.declared.whole.LenTold.{LenTold}
 use Rattle.group_lives.specs.declared.openings.Added.{Added}
 use Rattle.group_lives.specs.declared.endings.Closed.{Closed}
 

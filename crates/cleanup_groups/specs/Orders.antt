@@ -12,7 +12,7 @@ use Rattle.cleanup_queue.specs.Orders.{Due, due}
 use Rattle.group_record.specs.Record.{queueAt}
 use Rattle.group_record.specs.Questions.{drained}
 use Rattle.group_record.specs.Scan.{firstYes, someYes}
-use Rattle.group_record.specs.WellFormed.{lastBase, ids, wellGrouped}
+use Rattle.group_check.specs.WellFormed.{lastBase, ids, wellGrouped}
 use Rattle.group_record.specs.declared.record.Groups.{Groups}
 use Rattle.group_record.specs.declared.questions.Question.the-variants.{Free, Holds, Undrained}
 

@@ -7,8 +7,8 @@ use Rattle.group_lives.specs.Openings.{addedScope, addedIterator}
 use Rattle.group_lives.specs.Endings.{removed, sealedIn}
 use Rattle.group_steps.specs.Births.{registeredIn, landedIn}
 use Rattle.group_steps.specs.Attempts.{poppedIn, completedIn, retriedIn}
-use Rattle.group_steps.specs.Stages.{admittedIn, admittedInWithout, endedIn, cancelledIn}
-use Rattle.group_steps.specs.Rounds.{retriedAll}
+use Rattle.group_stages.specs.Stages.{admittedIn, admittedInWithout, endedIn, cancelledIn}
+use Rattle.group_rounds.specs.Rounds.{retriedAll}
 
 -- the calls that may change the record; the number first is the group's id
 pub data Call : Type 0 where

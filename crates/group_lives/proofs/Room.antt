@@ -15,12 +15,12 @@ use Rattle.queue_record.specs.declared.openings.Opened.{Opened}
 use Rattle.queue_record.specs.declared.openings.Opened.the-variants.{Open}
 use Rattle.group_record.specs.Record.{emptyOf}
 use Rattle.group_record.specs.Scan.{firstYes}
-use Rattle.group_record.specs.WellFormed.{ids, wellGrouped}
+use Rattle.group_check.specs.WellFormed.{ids, wellGrouped}
 use Rattle.group_record.specs.declared.record.Groups.{Groups}
 use Rattle.group_record.specs.declared.questions.Question.the-variants.{Free}
-use Rattle.group_record.specs.declared.ids.Spot.{Spot}
-use Rattle.group_record.proofs.Fit.{Fit, fit}
-use Rattle.group_record.proofs.Spots.{first-below}
+use Rattle.group_check.specs.declared.ids.Spot.{Spot}
+use Rattle.group_check.proofs.Fit.{Fit, fit}
+use Rattle.group_check.proofs.Spots.{first-below}
 use Rattle.group_lives.specs.Openings.{unsealed, roomAt, roomOf}
 
 pub unsealed-means : (g : Groups) → unsealed g ≡ Open → (wellGrouped g ≡ true) × (g .sealed ≡ false)

@@ -9,10 +9,10 @@ use Rattle.queue_record.specs.declared.openings.Opened.the-variants.{Open}
 use Rattle.group_record.specs.Record.{queueAt, freePlace, withPlace, sealing}
 use Rattle.group_record.specs.Questions.{drained}
 use Rattle.group_record.specs.Scan.{someYes}
-use Rattle.group_record.specs.Ids.{spotOf}
+use Rattle.group_check.specs.Ids.{spotOf}
 use Rattle.group_record.specs.declared.record.Groups.{Groups}
 use Rattle.group_record.specs.declared.questions.Question.the-variants.{Undrained}
-use Rattle.group_record.specs.declared.ids.Spot.{Spot}
+use Rattle.group_check.specs.declared.ids.Spot.{Spot}
 use Rattle.group_lives.specs.Openings.{unsealed}
 use Rattle.group_lives.specs.declared.endings.Closed.{Closed}
 use Rattle.group_lives.specs.declared.endings.Closed.the-variants.{Done}

@@ -1,13 +1,13 @@
 // Groups closed, and the record sealed.
 use crate::openings::is_unsealed;
+use group_check::Spot;
+use group_check::look_up;
+use group_check::queue_at;
 use group_record::Groups;
 use group_record::Question;
-use group_record::Spot;
 use group_record::free_place;
 use group_record::is_drained;
-use group_record::look_up;
 use group_record::put_place;
-use group_record::queue_at;
 use group_record::sealed_of;
 use group_record::some;
 use queue_record::Opened;

@@ -1,13 +1,13 @@
 // A new record, and groups opened in it.
+use group_check::IDS;
+use group_check::LAST_BASE;
+use group_check::Spot;
+use group_check::lowest;
+use group_check::well_grouped;
 use group_record::Groups;
-use group_record::IDS;
-use group_record::LAST_BASE;
 use group_record::Question;
-use group_record::Spot;
 use group_record::empty;
-use group_record::lowest;
 use group_record::put_new;
-use group_record::well_grouped;
 use queue_record::Found;
 use queue_record::Opened;
 use queue_record::Queue;

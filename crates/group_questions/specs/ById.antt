@@ -5,10 +5,10 @@ use Rattle.queue_questions.specs.Questions.{isEmptyTold, isIssuedTold, isPendin
 use Rattle.queue_questions.specs.declared.questions.Told.{Told}
 use Rattle.queue_questions.specs.declared.questions.Told.the-variants.{Yes, No}
 use Rattle.queue_questions.specs.declared.questions.DomainTold.{DomainTold}
-use Rattle.group_record.specs.Ids.{got}
+use Rattle.group_check.specs.Ids.{got}
 use Rattle.group_record.specs.declared.record.Groups.{Groups}
-use Rattle.group_record.specs.declared.ids.Got.{Got}
-use Rattle.group_record.specs.declared.ids.Got.the-variants.{Group}
+use Rattle.group_check.specs.declared.ids.Got.{Got}
+use Rattle.group_check.specs.declared.ids.Got.the-variants.{Group}
 
 -- the refusal of the id, or else what its queue told
 abbrev pub toldBy : Got → Told → Told

@@ -1,2 +1,1 @@
 pub mod ById
-pub mod Whole

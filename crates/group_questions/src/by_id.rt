@@ -1,7 +1,7 @@
 // The yes-or-no calls of a group, by its id. They are named after the queue's, since the record has calls of those names too.
-use group_record::Got;
+use group_check::Got;
+use group_check::get;
 use group_record::Groups;
-use group_record::get;
 use queue_questions::DomainTold;
 use queue_questions::Told;
 ghost use mathlib.Core.Path.{_≡_};

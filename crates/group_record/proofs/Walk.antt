@@ -1,19 +1,18 @@
 -- The walk over the places: one step, a hit, and the end
 use Prim.Native.Nat.{ℕ, suc, _+_, _<_, _≤_}
 use mathlib.Core.Path.{_≡_, refl, sym, ap, _∙_}
-use mathlib.Core.Bool.{Bool, true, false, not, _&&_}
+use mathlib.Core.Bool.{Bool, true, false}
 use mathlib.Core.List.{List, [], _∷_}
 use native.Mathlib.Omega.{arith}
 use native.Mathlib.Numerals.{add-one}
 use lib.ListN.{length, getD, drop, drop-of-length-le}
 use lib.Seq.{drop-cons}
 use Rattle.stage.specs.Choice.{if_then_else_}
-use Rattle.stage.proofs.Ways.{hit, miss, pass, stop}
+use Rattle.stage.proofs.Ways.{hit, miss}
 use Rattle.queue_record.specs.declared.search.Found.{Found}
 use Rattle.queue_record.specs.declared.search.Found.the-variants.{At, Missing}
 use Rattle.group_record.specs.Record.{nowhere}
 use Rattle.group_record.specs.Scan.{firstFrom, isThere}
-use Rattle.group_record.specs.WellFormed.{clashes, distinctIds}
 use Rattle.group_record.specs.declared.record.Place.{Place}
 
 -- the places from i on, apart
@@ -44,17 +43,3 @@ there-from says j k (p ∷ ps) = go (says p) (there-from says (suc j) (suc k) ps
     go : (b : Bool) → isThere (firstFrom says (suc j) ps) ≡ isThere (firstFrom says (suc k) ps) → isThere (if b then At j else firstFrom says (suc j) ps) ≡ isThere (if b then At k else firstFrom says (suc k) ps)
     go true e = refl
     go false e = e
-
--- ---- distinct ids
-module _ (ps : List Place) (i : ℕ) (l : length ps ≡ 16) where
-  distinct-step : i < 16 → distinctIds (drop i ps) ≡ (not (clashes (getD ps i nowhere) (drop (i + 1) ps)) && distinctIds (drop (i + 1) ps))
-  distinct-step h = ap distinctIds (place-left ps i l h)
-
-  pub distinct-hit : i < 16 → clashes (getD ps i nowhere) (drop (i + 1) ps) ≡ true → false ≡ distinctIds (drop i ps)
-  distinct-hit h e = sym (distinct-step h ∙ stop _ (ap not e))
-
-  pub distinct-past : i < 16 → clashes (getD ps i nowhere) (drop (i + 1) ps) ≡ false → distinctIds (drop (i + 1) ps) ≡ distinctIds (drop i ps)
-  distinct-past h e = sym (distinct-step h ∙ pass _ (ap not e))
-
-  pub distinct-end : 16 ≤ i → true ≡ distinctIds (drop i ps)
-  distinct-end h = sym (ap distinctIds (places-end ps i l h))

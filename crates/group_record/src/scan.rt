@@ -1,4 +1,4 @@
-// The walks over the places: the first that answers a question with yes, and how many are live.
+// The walk over the places: the first that answers a question with yes.
 use crate::questions::Question;
 use crate::questions::ask;
 use crate::record::Groups;
@@ -8,7 +8,6 @@ ghost use mathlib.Core.List.{[]};
 ghost use lib.ListN.{drop};
 ghost use Rattle.group_record.specs.Questions.{asksOf};
 ghost use Rattle.group_record.specs.Scan.{firstFrom, isThere, someYes};
-ghost use Rattle.group_record.specs.Count.{liveCount};
 
 // From the place `from` on; the target is for Unfinished.
 pub fn first_where(g: Groups, from: usize, question: Question, target: &[u64]) -> Found
@@ -41,19 +40,4 @@ pub fn some(g: Groups, question: Question) -> bool
 {
     let none = [0u64; 1];
     some_from(g, 0, question, &none[..0])
-}
-
-pub fn live_count(g: Groups) -> u64
-    ensures { λ r. ⌜ r ≡ liveCount (g .places) ⌝ }
-{
-    let mut count: u64 = 0;
-    let mut i = 0;
-    while i < 16 {
-        let place = g.places[i];
-        if place.live {
-            count += 1;
-        }
-        i += 1;
-    }
-    count
 }

@@ -9,9 +9,9 @@ use Rattle.queue_steps.specs.declared.attempts.CompleteAnswer.{CompleteAnswer}
 use Rattle.queue_steps.specs.declared.attempts.Retried.{Retried}
 use Rattle.queue_steps.specs.declared.attempts.RetryAnswer.{RetryAnswer}
 use Rattle.group_record.specs.Record.{queueAt, withQueue}
-use Rattle.group_record.specs.Ids.{spotOf}
+use Rattle.group_check.specs.Ids.{spotOf}
 use Rattle.group_record.specs.declared.record.Groups.{Groups}
-use Rattle.group_record.specs.declared.ids.Spot.{Spot}
+use Rattle.group_check.specs.declared.ids.Spot.{Spot}
 use Rattle.group_steps.specs.declared.attempts.GroupPopAnswer.{GroupPopAnswer}
 use Rattle.group_steps.specs.declared.attempts.GroupCompleteAnswer.{GroupCompleteAnswer}
 use Rattle.group_steps.specs.declared.attempts.GroupRetryAnswer.{GroupRetryAnswer}

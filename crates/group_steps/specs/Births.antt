@@ -4,9 +4,9 @@ use Rattle.queue_steps.specs.Births.{registered, landed}
 use Rattle.queue_steps.specs.declared.births.Registered.{Registered}
 use Rattle.queue_steps.specs.declared.births.RegisterAnswer.{RegisterAnswer}
 use Rattle.group_record.specs.Record.{queueAt, withQueue}
-use Rattle.group_record.specs.Ids.{spotOf}
+use Rattle.group_check.specs.Ids.{spotOf}
 use Rattle.group_record.specs.declared.record.Groups.{Groups}
-use Rattle.group_record.specs.declared.ids.Spot.{Spot}
+use Rattle.group_check.specs.declared.ids.Spot.{Spot}
 use Rattle.group_steps.specs.declared.births.GroupRegisterAnswer.{GroupRegisterAnswer}
 
 -- a refusal: its number, the undo number given, and the record as it was

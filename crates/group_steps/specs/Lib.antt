@@ -1,4 +1,2 @@
 pub mod Births
 pub mod Attempts
-pub mod Stages
-pub mod Rounds

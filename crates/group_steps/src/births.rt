@@ -1,9 +1,9 @@
 // Register and land of a group, by its id.
+use group_check::Spot;
+use group_check::look_up;
+use group_check::queue_at;
 use group_record::Groups;
-use group_record::Spot;
-use group_record::look_up;
 use group_record::put_queue;
-use group_record::queue_at;
 use queue_steps::Registered;
 ghost use mathlib.Core.Path.{_≡_};
 ghost use Rattle.group_steps.specs.Births.{registeredIn, landedIn};

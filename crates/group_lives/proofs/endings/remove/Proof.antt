@@ -8,7 +8,7 @@ use Rattle.group_record.specs.Record.{withPlace}
 use Rattle.group_record.specs.Questions.{drained}
 use Rattle.group_record.specs.declared.record.Groups.{Groups}
 use Rattle.group_record.specs.declared.record.Place.{Place}
-use Rattle.group_record.proofs.Spots.{spot-below}
+use Rattle.group_check.proofs.Spots.{spot-below}
 use Rattle.group_lives.specs.Endings.{removedAt, removed}
 use Rattle.group_lives.specs.declared.endings.Closed.{Closed}
 use Rattle.group_lives.specs.declared.endings.CloseAnswer.{CloseAnswer}

@@ -1,7 +1,7 @@
 -- By the answer
 use mathlib.Core.Path.{sym, ap}
 use Rattle.group_questions.specs.ById.{domainBy}
-use Rattle.group_record.specs.declared.ids.Got.{Got}
+use Rattle.group_check.specs.declared.ids.Got.{Got}
 use borrow.Author.Needs.{needs}
 use Rattle.group_questions.proofs.by_id.domain_by.Statement.{statement}
 use Rattle.group_questions.proofs.by_id.domain_by.Tie as tie

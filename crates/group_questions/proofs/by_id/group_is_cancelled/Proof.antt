@@ -2,7 +2,7 @@
 use mathlib.Core.Path.{ap, _∙_}
 use Rattle.queue_questions.specs.Questions.{isCancelledTold}
 use Rattle.queue_questions.specs.declared.questions.Told.{Told}
-use Rattle.group_record.specs.declared.ids.GetAnswer.{GetAnswer}
+use Rattle.group_check.specs.declared.ids.GetAnswer.{GetAnswer}
 use Rattle.group_questions.specs.ById.{toldBy}
 use borrow.Author.Needs.{needs}
 use Rattle.group_questions.proofs.by_id.group_is_cancelled.Statement.{statement}

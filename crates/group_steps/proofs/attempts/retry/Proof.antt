@@ -4,7 +4,7 @@ use lib.ListN.{length, length-map}
 use Rattle.queue_record.specs.declared.record.Queue.{Queue}
 use Rattle.queue_steps.specs.Attempts.{retried}
 use Rattle.queue_steps.specs.declared.attempts.Retried.{Retried}
-use Rattle.group_record.proofs.Spots.{spot-below}
+use Rattle.group_check.proofs.Spots.{spot-below}
 use Rattle.group_record.specs.declared.record.Groups.{Groups}
 use Rattle.group_steps.specs.Attempts.{renewedAt, retriedAt, retriedIn}
 use Rattle.group_steps.specs.declared.attempts.GroupRetryAnswer.{GroupRetryAnswer}

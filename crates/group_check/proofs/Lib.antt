@@ -1,0 +1,4 @@
+pub mod Fit
+pub mod Spots
+pub mod Counted
+pub mod Distinct

@@ -1,0 +1,20 @@
+-- Refused with 1, with 10, or where it is
+use mathlib.Core.Path.{sym, ap, _∙_}
+use Rattle.stage.proofs.Ways.{hit, miss, negated}
+use Rattle.group_check.specs.Ids.{spotAt, spotOf}
+use borrow.Author.Needs.{needs}
+use Rattle.group_check.proofs.ids.look_up.Statement.{statement}
+use Rattle.group_check.proofs.ids.look_up.Tie as tie
+
+pub look-up-spec : {M : Type 1} → statement M
+unfolding spotOf
+look-up-spec =
+    tie.close
+    (tie.spec
+    (λ c κs. search needs)
+    (λ c. sym (hit _ (negated (c .before .well-grouped .ensures) (c .if1 .taken))))
+    (λ c κs. search needs)
+    (λ c. search needs)
+    (λ c. search needs)
+    (λ c. sym (miss _ (negated (c .before .before .before .before .well-grouped .ensures) (c .before .before .before .if1 .left)) ∙ ap spotAt (sym (c .before .before .lowest .ensures) ∙ (c .enum-told .given .1))))
+    (λ c. sym (miss _ (negated (c .before .before .before .before .before .well-grouped .ensures) (c .before .before .before .before .if1 .left)) ∙ ap spotAt (sym (c .before .before .before .lowest .ensures) ∙ (c .before .found .given .1)))))

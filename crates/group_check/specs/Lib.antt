@@ -1,0 +1,3 @@
+pub mod WellFormed
+pub mod Ids
+pub mod Count

@@ -1,0 +1,67 @@
+-- When a group record is well formed: document 01, "Groups", its fourth sentence, a named clause each
+use Prim.Native.Nat.{ℕ}
+use mathlib.Core.Bool.{Bool, true, false, not, _&&_}
+use mathlib.Core.List.{List, [], _∷_}
+use lib.Dec.{leb}
+use Rattle.stage.specs.Choice.{implies}
+use Rattle.queue_record.specs.WellFormed.{allTrue}
+use Rattle.group_record.specs.Questions.{asksOf}
+use Rattle.group_record.specs.Scan.{firstFrom, isThere, someYes}
+use Rattle.group_record.specs.declared.record.Place.{Place}
+use Rattle.group_record.specs.declared.record.Groups.{Groups}
+use Rattle.group_record.specs.declared.questions.Question.the-variants.{Littered, Live, Holds, PastNext, Foreign}
+
+-- the largest base to which the id 65,535 can be added, with one number to spare
+abbrev pub lastBase : ℕ
+lastBase = 18446744073709486079
+
+-- ids are 0 to 65,535
+abbrev pub ids : ℕ
+ids = 65536
+
+-- the base is not above 18446744073709486079
+abbrev pub baseFits : ℕ → Bool
+baseFits base = leb base lastBase
+
+-- next is at most 65,536
+abbrev pub nextFits : ℕ → Bool
+nextFits next = leb next ids
+
+-- one of these places is live under the id of the live place p
+abbrev pub clashes : Place → List Place → Bool
+clashes p ps = p .live && isThere (firstFrom (asksOf (Holds (p .id)) []) 0 ps)
+
+-- live ids are distinct
+abbrev pub distinctIds : List Place → Bool
+distinctIds [] = true
+distinctIds (p ∷ ps) = not (clashes p ps) && distinctIds ps
+
+-- and below next
+abbrev pub idsBelow : Groups → Bool
+idsBelow g = not (someYes g (PastNext (g .next)) [])
+
+-- each live queue is well formed with its domain
+abbrev pub queuesFit : Groups → Bool
+queuesFit g = not (someYes g (Foreign (g .base)) [])
+
+-- each free place holds id 0 and the blank queue
+abbrev pub freeFits : Groups → Bool
+freeFits g = not (someYes g Littered [])
+
+-- a sealed record has none live
+abbrev pub sealedFits : Groups → Bool
+sealedFits g = implies (g .sealed) (not (someYes g Live []))
+
+abbrev pub clauses : Groups → List Bool
+clauses g =
+    baseFits (g .base) ∷
+    nextFits (g .next) ∷
+    distinctIds (g .places) ∷
+    idsBelow g ∷
+    queuesFit g ∷
+    freeFits g ∷
+    sealedFits g ∷
+    []
+
+unfoldable pub wellGrouped : Groups → Bool
+wellGrouped g = allTrue (clauses g)

@@ -1,0 +1,18 @@
+-- As it is, or retried
+use mathlib.Core.Path.{sym, ap, _∙_}
+use borrow.Author.Tests.{not-true, not-false}
+use Rattle.stage.proofs.Ways.{hit, miss, pass, stop}
+use Rattle.queue_steps.specs.declared.attempts.RetryAnswer.{RetryAnswer}
+use Rattle.group_record.specs.Record.{holding}
+use borrow.Author.Needs.{needs}
+use Rattle.group_rounds.proofs.rounds.renew.Statement.{statement}
+use Rattle.group_rounds.proofs.rounds.renew.Tie as tie
+
+pub renew-spec : {M : Type 1} → statement M
+renew-spec =
+    tie.close
+    (tie.spec
+    (λ c. sym (miss _ (stop _ (not-true (c .before .before .args .place .live) (c .if1 .taken)))))
+    (λ c. sym (miss _ (pass _ (not-false (c .before .before .before .before .before .args .place .live) (c .before .before .before .if1 .left)) ∙ not-true (c .before .before .before .before .before .args .place .queue .failed) (c .if2 .taken))))
+    (λ c κs. search needs)
+    (λ c. ap (λ (s : RetryAnswer). holding (c .before .before .before .before .before .before .before .args .place) (s .queue)) (c .before .retry .ensures) ∙ sym (hit _ (pass _ (not-false (c .before .before .before .before .before .before .before .args .place .live) (c .before .before .before .before .before .if1 .left)) ∙ not-false (c .before .before .before .before .before .before .before .args .place .queue .failed) (c .before .before .if2 .left)))))

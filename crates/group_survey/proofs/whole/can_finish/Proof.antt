@@ -1,0 +1,18 @@
+-- Refused, or told
+use mathlib.Core.Path.{sym, ap, _∙_}
+use mathlib.Core.Bool.{not}
+use Rattle.stage.proofs.Ways.{hit, miss, negated}
+use Rattle.queue_questions.specs.Questions.{yesOrNo}
+use borrow.Author.Needs.{needs}
+use Rattle.group_survey.proofs.whole.can_finish.Statement.{statement}
+use Rattle.group_survey.proofs.whole.can_finish.Tie as tie
+
+pub can-finish-spec : {M : Type 1} → statement M
+can-finish-spec =
+    tie.close
+    (tie.spec
+    (λ c κs. search needs)
+    (λ c. sym (hit _ (negated (c .before .well-grouped .ensures) (c .if1 .taken))))
+    (λ c κs. search needs)
+    (λ c κs. search needs)
+    (λ c. (c .say .ensures) ∙ (ap yesOrNo (ap not (c .before .some-from .ensures)) ∙ sym (miss _ (negated (c .before .before .before .well-grouped .ensures) (c .before .before .if1 .left))))))

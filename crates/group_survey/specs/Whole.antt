@@ -1,0 +1,65 @@
+-- The calls that ask of all live groups: document 01, "Groups", last sentence; they refuse only with 1
+use Prim.Native.Nat.{ℕ}
+use mathlib.Core.Bool.{Bool, not, _&&_}
+use mathlib.Core.List.{List, []}
+use lib.Dec.{ltb}
+use Rattle.stage.specs.Choice.{if_then_else_}
+use Rattle.queue_record.specs.Refusals.{broken}
+use Rattle.queue_questions.specs.Questions.{yesOrNo}
+use Rattle.queue_questions.specs.declared.questions.Told.{Told}
+use Rattle.group_record.specs.Scan.{someYes}
+use Rattle.group_check.specs.Count.{liveCount}
+use Rattle.group_check.specs.WellFormed.{ids, wellGrouped}
+use Rattle.group_record.specs.declared.record.Groups.{Groups}
+use Rattle.group_record.specs.declared.questions.Question.the-variants.{Free, Live, Holds, Pending, Issued, Failed, Stuck, Unfinished, Undrained}
+use Rattle.group_survey.specs.declared.whole.LenTold.{LenTold}
+
+-- a question put to a record: 1 if it is not well formed, else the answer
+abbrev pub toldOf : Groups → Bool → Told
+toldOf g answer = if not (wellGrouped g) then Told.Refused broken else yesOrNo answer
+
+-- contains: the id is live
+abbrev pub containsTold : Groups → ℕ → Told
+containsTold g id = toldOf g (someYes g (Holds id) [])
+
+-- is_empty: no group is live
+abbrev pub isEmptyOf : Groups → Told
+isEmptyOf g = toldOf g (not (someYes g Live []))
+
+-- has_pending: some live group's stage is pending
+abbrev pub hasPendingOf : Groups → Told
+hasPendingOf g = toldOf g (someYes g Pending [])
+
+-- has_issued: some live group has an undo out
+abbrev pub hasIssuedOf : Groups → Told
+hasIssuedOf g = toldOf g (someYes g Issued [])
+
+-- has_failed: some live group has failed
+abbrev pub hasFailedOf : Groups → Told
+hasFailedOf g = toldOf g (someYes g Failed [])
+
+-- some live group has failed, and none of these is without a retry
+abbrev pub retriesAll : Groups → Bool
+retriesAll g = someYes g Failed [] && not (someYes g Stuck [])
+
+abbrev pub canRetryAllOf : Groups → Told
+canRetryAllOf g = toldOf g (retriesAll g)
+
+-- can_finish: no live group keeps it from a yes
+abbrev pub canFinishOf : Groups → List ℕ → Told
+canFinishOf g target = toldOf g (not (someYes g Unfinished target))
+
+-- can_seal: "sealing needs all live ones drained"
+abbrev pub canSealOf : Groups → Told
+canSealOf g = toldOf g (not (someYes g Undrained []))
+
+-- an opening would not get 12, 11 or 19
+abbrev pub roomFor : Groups → Bool
+roomFor g = not (g .sealed) && (someYes g Free [] && ltb (g .next) ids)
+
+abbrev pub canAddOf : Groups → Told
+canAddOf g = toldOf g (roomFor g)
+
+-- len: how many groups are live
+abbrev pub lenOf : Groups → LenTold
+lenOf g = if not (wellGrouped g) then LenTold.Refused broken else LenTold.Live (liveCount (g .places))
