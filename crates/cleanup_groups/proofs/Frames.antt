@@ -1,15 +1,20 @@
 -- A call on an id changes one queue and nothing else of the record: base, next, seal, marks and ids stay
 use Prim.Native.Nat.{ℕ, _<_}
 use mathlib.Core.Path.{_≡_, refl, sym, ap, _∙_, subst}
+use mathlib.Core.Bool.{not}
 use mathlib.Core.List.{List}
 use lib.ListN.{length}
 use Rattle.queue_record.specs.declared.record.Queue.{Queue}
 use Rattle.queue_record.specs.declared.record.Ticket.{Ticket}
-use Rattle.group_record.specs.Record.{placeAt, holding, withQueue, sealing}
+use Rattle.stage.proofs.Ways.{if-by}
+use Rattle.group_record.specs.Questions.{drained}
+use Rattle.group_record.specs.Record.{placeAt, queueAt, holding, withQueue, sealing}
 use Rattle.group_check.specs.Ids.{spotOf}
 use Rattle.group_record.specs.declared.record.Place.{Place}
 use Rattle.group_record.specs.declared.record.Groups.{Groups}
 use Rattle.group_check.specs.declared.ids.Spot.{Spot}
+use Rattle.group_lives.specs.Endings.{removedAt, removed}
+use Rattle.group_lives.specs.declared.endings.CloseAnswer.{CloseAnswer}
 use Rattle.group_steps.specs.Births.{registeredAt, registeredIn, landedAt, landedIn}
 use Rattle.group_steps.specs.Attempts.{poppedAt, poppedIn, completedAt, completedIn, retriedAt, retriedIn}
 use Rattle.group_stages.specs.Stages.{admittedAt, admittedIn, admittedAtWithout, admittedInWithout, endedAt, endedIn, cancelledAt, cancelledIn}
@@ -88,3 +93,9 @@ round-frame g = record { base = refl; next = refl; sealed = refl; marks = round-
 pub base-stays : (g : Groups) (c : Call) → after g c .base ≡ g .base
 unfolding sealing
 base-stays g c = call-by (λ (h : Groups). h .base ≡ g .base) g refl (λ _ _ _ _. refl) (λ _ _ _ _ _. refl) (λ _ _ _ _. refl) (λ _ _. refl) (λ _ _. refl) c
+
+-- a closing changes one place and nothing beside the places
+pub close-frame : (g : Groups) (id : ℕ) → (removed g id .groups .next ≡ g .next) × (removed g id .groups .sealed ≡ g .sealed)
+unfolding removed
+close-frame g id = by-spot (λ (r : CloseAnswer). (r .groups .next ≡ g .next) × (r .groups .sealed ≡ g .sealed)) (removedAt g) (spotOf g id) (λ _ _. (refl, refl))
+    (λ i _. if-by (λ (r : CloseAnswer). (r .groups .next ≡ g .next) × (r .groups .sealed ≡ g .sealed)) (not (drained (queueAt g i))) _ _ (λ _. (refl, refl)) (λ _. (refl, refl)))

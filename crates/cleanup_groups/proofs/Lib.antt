@@ -16,3 +16,4 @@ pub mod Upstream
 pub mod Frames
 pub mod Live
 pub mod Room
+pub mod Gone

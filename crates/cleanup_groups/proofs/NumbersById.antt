@@ -1,11 +1,11 @@
 -- The other calls answer the first refusal that is due: 1, 10, then as the queue; on the whole record 1 alone
 use Prim.Native.Nat.{ℕ}
-use mathlib.Core.Path.{_≡_, refl, _∙_}
+use mathlib.Core.Path.{_≡_, refl, ap, _∙_}
 use mathlib.Core.Bool.{Bool, true, false, not}
 use mathlib.Core.List.{List, []}
 use Rattle.stage.specs.Choice.{if_then_else_}
 use Rattle.stage.specs.Phases.{isCancelled}
-use Rattle.stage.proofs.Ways.{if-by}
+use Rattle.stage.proofs.Ways.{hit, miss, if-by}
 use Rattle.queue_record.specs.Refusals.{broken, noGroup}
 use Rattle.queue_record.specs.declared.record.Queue.{Queue}
 use Rattle.queue_record.specs.declared.record.Ticket.{Ticket}
@@ -17,7 +17,7 @@ use Rattle.cleanup_queue.specs.Answers.{registeredSays, poppedSays, completedSa
 use Rattle.cleanup_queue.specs.Orders.{Due, firstDue, registerOrder, landOrder, popOrder, completeOrder, retryOrder, brokenOnly}
 use Rattle.cleanup_queue.proofs.Numbers as queue
 use Rattle.group_record.specs.Record.{queueAt}
-use Rattle.group_record.specs.Scan.{isThere, firstYes}
+use Rattle.group_record.specs.Scan.{isThere, firstYes, someYes}
 use Rattle.group_check.specs.WellFormed.{wellGrouped}
 use Rattle.group_check.specs.Ids.{spotAt, spotOf, gotAt, got}
 use Rattle.group_record.specs.declared.record.Groups.{Groups}
@@ -123,3 +123,11 @@ module _ (g : Groups) where
   pub retry-all-number : toldSays (retriedAll g .answer) .number ≡ firstDue (recordOrder g)
   unfolding retriedAll
   retry-all-number = due-if (λ (r : RetryAllAnswer). toldSays (r .answer) .number) (not (wellGrouped g)) _ _ refl (if-by (λ (r : RetryAllAnswer). toldSays (r .answer) .number ≡ 0) (not (retriesAll g)) _ _ (λ _. refl) (λ _. refl))
+
+-- ---- an id that is not live gets 10 from every call by id, and a spoiled record 1
+module _ (g : Groups) (id : ℕ) (order : Queue → List Due) where
+  pub broken-first : wellGrouped g ≡ false → firstDue (stepOrder g id order) ≡ broken
+  broken-first w = hit _ (ap not w)
+
+  pub dead-next : wellGrouped g ≡ true → someYes g (Holds id) [] ≡ false → firstDue (stepOrder g id order) ≡ noGroup
+  dead-next w n = miss broken (ap not w) ∙ hit _ (ap not n)

@@ -1,18 +1,19 @@
 -- How many groups are live, and when one more may be opened
-use Prim.Native.Nat.{ℕ, zero, suc, _+_, _<_}
+use Prim.Native.Nat.{ℕ, zero, suc, _+_, _<_, _≤_}
 use mathlib.Core.Path.{_≡_, refl, sym, ap, _∙_}
 use mathlib.Core.Bool.{Bool, true, false, not, _&&_}
 use mathlib.Core.List.{List, [], _∷_}
 use native.Mathlib.Omega.{arith}
-use borrow.Author.Tests.{ltb-true, lt-ltb, lt-leb, not-true}
+use borrow.Author.Tests.{ltb-true, lt-ltb, le-ltb, lt-leb, not-true}
 use lib.Dec.{ltb}
 use lib.ListN.{length, getD, set}
 use Rattle.stage.specs.Choice.{if_then_else_}
 use Rattle.stage.proofs.Ways.{hit, miss, pass, clash, and-left, and-right}
-use Rattle.queue_record.specs.Openings.{scopeOf}
+use Rattle.queue_record.specs.Openings.{scopeOf, iteratorOf, iteratorOpened}
 use Rattle.queue_record.specs.Refusals.{broken, sealed}
 use Rattle.queue_record.specs.declared.openings.Opened.{Opened}
 use Rattle.queue_record.specs.declared.openings.Opened.the-variants.{Open}
+use Rattle.queue_record.specs.declared.openings.OpenAnswer.{OpenAnswer}
 use Rattle.queue_record.specs.declared.record.Queue.{Queue}
 use Rattle.queue_record.specs.declared.search.Found.{Found}
 use Rattle.queue_record.specs.declared.search.Found.the-variants.{At, Missing}
@@ -26,7 +27,7 @@ use Rattle.group_record.specs.declared.record.Groups.{Groups}
 use Rattle.group_record.specs.declared.questions.Question.the-variants.{Free, Live}
 use Rattle.group_check.specs.declared.ids.Spot.{Spot}
 use Rattle.group_survey.specs.Whole.{roomFor, canAddOf, isEmptyOf}
-use Rattle.group_lives.specs.Openings.{unsealed, nextDomain, roomAt, roomOf, addedAt, addedScopeBy, addedScope}
+use Rattle.group_lives.specs.Openings.{unsealed, nextDomain, roomAt, roomOf, addedAt, addedScopeBy, addedScope, addedQueue, addedIteratorBy, addedIterator}
 use Rattle.group_lives.specs.declared.openings.Added.{Added}
 use Rattle.group_lives.specs.declared.openings.AddAnswer.{AddAnswer}
 use Rattle.cleanup_groups.specs.Promises.{LiveAt}
@@ -87,7 +88,7 @@ all-count (p ∷ ps) f = hit _ (f 0 (omega arith)) ∙ ap suc (all-count ps (λ 
 
 -- ---- whether a group may be opened: exactly if the opening of a scope is done
 module _ (g : Groups) where
-  is-open : wellGrouped g ≡ true → g .sealed ≡ false → unsealed g ≡ Open
+  pub is-open : wellGrouped g ≡ true → g .sealed ≡ false → unsealed g ≡ Open
   is-open w s = miss (Opened.Refused broken) (ap not w) ∙ miss (Opened.Refused sealed) s
 
   open-way : unsealed g ≡ Open → (i : ℕ) → firstYes g Free [] ≡ At i → g .next < 65536 → addedScope g .answer ≡ Added.Id (g .next)
@@ -95,6 +96,17 @@ module _ (g : Groups) where
   open-way u i f n =
       ap (λ (o : Opened). addedScopeBy g o .answer) u
       ∙ ap (λ (s : Spot). addedAt g (scopeOf (nextDomain g) 0) s .answer) (ap (roomAt g) f ∙ miss _ (lt-leb ids (g .next) n))
+
+  -- the opening of an iterator passes the same way, once its bindings are few enough
+  iterator-way : (bindings : List ℕ) → length bindings ≤ 16 → addedScope g .answer ≡ Added.Id (g .next) → unsealed g ≡ Open → addedIterator g bindings .answer ≡ Added.Id (g .next)
+  unfolding addedScope addedIterator iteratorOpened
+  iterator-way bindings k h u =
+      ap (λ (o : Opened). addedIteratorBy g bindings o .answer) u
+      ∙ (ap (λ (o : OpenAnswer). addedQueue g (o .queue) (o .answer) .answer) (miss _ (le-ltb 16 (length bindings) k)) ∙ (same-way (roomOf g) ∙ (sym (ap (λ (o : Opened). addedScopeBy g o .answer) u) ∙ h)))
+    where
+      same-way : (s : Spot) → addedAt g (iteratorOf (nextDomain g) 0 bindings) s .answer ≡ addedAt g (scopeOf (nextDomain g) 0) s .answer
+      same-way (Spot.Refused r) = refl
+      same-way (Spot.At i) = refl
 
   pub may-open : canAddOf g ≡ Yes → addedScope g .answer ≡ Added.Id (g .next)
   may-open h = go (firstYes g Free []) refl
@@ -108,6 +120,11 @@ module _ (g : Groups) where
       go : (f : Found) → firstYes g Free [] ≡ f → addedScope g .answer ≡ Added.Id (g .next)
       go Missing e = clash (and-left (someYes g Free []) (ltb (g .next) ids) room) (ap isThere e)
       go (At i) e = open-way (is-open (told-yes g (roomFor g) h .0) (not-true _ (and-left (not (g .sealed)) (someYes g Free [] && ltb (g .next) ids) t))) i e (ltb-true _ _ (and-right (someYes g Free []) (ltb (g .next) ids) room))
+
+  pub may-open-iterator : (bindings : List ℕ) → length bindings ≤ 16 → canAddOf g ≡ Yes → addedIterator g bindings .answer ≡ Added.Id (g .next)
+  may-open-iterator bindings k h =
+      let t : roomFor g ≡ true = told-yes g (roomFor g) h .1 in
+      iterator-way bindings k (may-open h) (is-open (told-yes g (roomFor g) h .0) (not-true _ (and-left (not (g .sealed)) (someYes g Free [] && ltb (g .next) ids) t)))
 
   room-for : (i : ℕ) → unsealed g ≡ Open → roomOf g ≡ Spot.At i → canAddOf g ≡ Yes
   room-for i u e =
@@ -134,3 +151,12 @@ module _ (g : Groups) where
 
     pub means-empty : wellGrouped g ≡ true → ((i : ℕ) → i < 16 → placeAt g i .live ≡ false) → isEmptyOf g ≡ Yes
     means-empty w f = yes-told g (not (someYes g Live [])) w (ap not (means-none g l Live [] (λ _ _. refl) (λ i k a. clash a (f i k))))
+
+-- ---- at most sixteen are live
+pub count-most : (ps : List Place) → liveCount ps ≤ length ps
+count-most [] = omega arith
+count-most (p ∷ ps) = let r : liveCount ps ≤ length ps = count-most ps in go (p .live) r
+  where
+    go : (b : Bool) → liveCount ps ≤ length ps → (if b then suc (liveCount ps) else liveCount ps) ≤ suc (length ps)
+    go true r = omega arith
+    go false r = omega arith

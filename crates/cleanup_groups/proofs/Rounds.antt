@@ -1,15 +1,17 @@
 -- retry_all retries every failed group, or changes nothing
 use Prim.Native.Nat.{ℕ, _<_}
-use mathlib.Core.Path.{_≡_, refl, sym, _∙_}
+use mathlib.Core.Path.{_≡_, refl, sym, ap, _∙_}
 use mathlib.Core.Bool.{true, false, not}
 use native.Mathlib.Omega.{arith}
 use borrow.Author.Tests.{not-true, not-false}
 use lib.ListN.{length}
-use Rattle.stage.proofs.Ways.{if-by, pass}
+use Rattle.stage.proofs.Ways.{if-by, miss, pass}
 use Rattle.queue_record.specs.declared.record.Ticket.{Ticket}
 use Rattle.queue_steps.specs.Attempts.{retried}
 use Rattle.queue_steps.specs.declared.attempts.Retried.the-variants.{Again}
 use Rattle.queue_questions.specs.Questions.{canRetryTold}
+use Rattle.queue_record.specs.Refusals.{broken}
+use Rattle.queue_questions.specs.declared.questions.Told.{Told}
 use Rattle.queue_questions.specs.declared.questions.Told.the-variants.{Yes}
 use Rattle.cleanup_queue.proofs.Upstream.{told-retries, retry-renews}
 use Rattle.group_record.specs.Record.{queueAt}
@@ -18,7 +20,7 @@ use Rattle.group_check.specs.WellFormed.{wellGrouped}
 use Rattle.group_record.specs.declared.record.Place.{Place}
 use Rattle.group_record.specs.declared.record.Groups.{Groups}
 use Rattle.group_survey.specs.Whole.{retriesAll}
-use Rattle.group_rounds.specs.Rounds.{allRetried, retriedAll}
+use Rattle.group_rounds.specs.Rounds.{allRetried, roundDone, retriedAll}
 use Rattle.group_rounds.specs.declared.rounds.RetryAllAnswer.{RetryAllAnswer}
 use Rattle.cleanup_groups.specs.Promises.{LiveAt}
 use Rattle.cleanup_groups.proofs.Drains.{yes-is}
@@ -53,3 +55,8 @@ module _ (g : Groups) (l : length (g .places) ≡ 16) (t : retriesAll g ≡ true
       by-round (λ (p : Place). p .queue .failed ≡ false) g i
       (λ b f. let w = round-renews i k b f in retry-renews (queueAt g i) (w .0) (w .1) .2)
       (λ n. sym (pass _ (sym (round-live g i) ∙ a)) ∙ n)
+
+-- where can_retry_all says yes, retry_all does
+pub round-happens : (g : Groups) → wellGrouped g ≡ true → retriesAll g ≡ true → retriedAll g .answer ≡ Yes
+unfolding retriedAll
+round-happens g w t = ap (λ (r : RetryAllAnswer). r .answer) (miss (roundDone (Told.Refused broken) g) (ap not w) ∙ miss (roundDone Told.No g) (ap not t))
