@@ -13,7 +13,7 @@ pub struct Changed {
     pub queue: Queue,
 }
 
-fn changed(q: Queue) -> Changed {
+fn in_range(q: Queue) -> Changed {
     Changed {
         good: true,
         queue: q,
@@ -50,19 +50,19 @@ fn with_kind(q: Queue, kind: Kind) -> Queue {
 
 fn set_kind(q: Queue, value: u64) -> Changed {
     match value {
-        0 => changed(with_kind(q, Kind::Scope)),
-        1 => changed(with_kind(q, Kind::Iterator)),
+        0 => in_range(with_kind(q, Kind::Scope)),
+        1 => in_range(with_kind(q, Kind::Iterator)),
         _ => out_of_range(q),
     }
 }
 
 fn set_phase(q: Queue, value: u64) -> Changed {
     match value {
-        0 => changed(move_to(q, Phase::Idle)),
-        1 => changed(move_to(q, Phase::Pending)),
-        2 => changed(move_to(q, Phase::Ended)),
-        3 => changed(move_to(q, Phase::Stopping)),
-        4 => changed(move_to(q, Phase::Closed)),
+        0 => in_range(move_to(q, Phase::Idle)),
+        1 => in_range(move_to(q, Phase::Pending)),
+        2 => in_range(move_to(q, Phase::Ended)),
+        3 => in_range(move_to(q, Phase::Stopping)),
+        4 => in_range(move_to(q, Phase::Closed)),
         _ => out_of_range(q),
     }
 }
@@ -75,7 +75,7 @@ fn set_number(q: Queue, field: u64, value: u64) -> Changed {
         4 => after.count = value,
         _ => after.bound = value,
     }
-    changed(after)
+    in_range(after)
 }
 
 fn set_mark(q: Queue, field: u64, value: u64) -> Changed {
@@ -87,7 +87,7 @@ fn set_mark(q: Queue, field: u64, value: u64) -> Changed {
         9 => after.failed = value == 1,
         _ => after.issued = value == 1,
     }
-    changed(after)
+    in_range(after)
 }
 
 fn set_slot(q: Queue, index: u64, value: u64) -> Changed {
@@ -97,7 +97,7 @@ fn set_slot(q: Queue, index: u64, value: u64) -> Changed {
     let at = index as usize;
     let mut after = q;
     after.slots[at] = value;
-    changed(after)
+    in_range(after)
 }
 
 fn set_binding(q: Queue, index: u64, value: u64) -> Changed {
@@ -107,7 +107,7 @@ fn set_binding(q: Queue, index: u64, value: u64) -> Changed {
     let at = index as usize;
     let mut after = q;
     after.bindings[at] = value;
-    changed(after)
+    in_range(after)
 }
 
 // The selected ticket; where none is, one of zeros.
@@ -125,8 +125,8 @@ pub fn ticket_in(selection: Selection) -> Ticket {
 fn set_selected(q: Queue, value: u64) -> Changed {
     let selection = q.selection;
     match value {
-        0 => changed(select(q, Selection::Free)),
-        1 => changed(select(q, Selection::Of(ticket_in(selection)))),
+        0 => in_range(select(q, Selection::Free)),
+        1 => in_range(select(q, Selection::Of(ticket_in(selection)))),
         _ => out_of_range(q),
     }
 }
@@ -139,7 +139,7 @@ fn set_ticket(q: Queue, field: u64, value: u64) -> Changed {
         7 => ticket.token = value,
         _ => ticket.attempt = value,
     }
-    changed(select(q, Selection::Of(ticket)))
+    in_range(select(q, Selection::Of(ticket)))
 }
 
 pub fn set_field(q: Queue, field: u64, index: u64, value: u64) -> Changed {

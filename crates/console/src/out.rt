@@ -38,12 +38,12 @@ fn put_all(page: &mut [u8; 4096], pen: Pen, bytes: &[u8]) -> Pen {
 }
 
 // Writes the page; after a write that failed, nothing more.
-fn send(page: &[u8; 4096], pen: Pen) -> Pen {
+fn send(page: &[u8], pen: Pen) -> Pen {
     let at = pen.at;
     if !pen.open {
         return pen;
     }
-    if 4096 < at {
+    if page.len() < at {
         return pen;
     }
     let taken = io::write_all(STDOUT_FILENO, &page[..at]);
@@ -54,7 +54,7 @@ fn send(page: &[u8; 4096], pen: Pen) -> Pen {
 }
 
 // A page with no room for one more number and the line's end is written first.
-fn with_room(page: &[u8; 4096], pen: Pen) -> Pen {
+fn with_room(page: &[u8], pen: Pen) -> Pen {
     if pen.at < 4000 {
         return pen;
     }

@@ -55,7 +55,7 @@ fn tell_end(page: &mut [u8; 4096], step: Step, line: u64, used: u64) {
     }
 }
 
-pub fn run(log: &mut [u64], chunk: &mut [u8; 4096], page: &mut [u8; 4096]) {
+pub fn run(log: &mut [u64; 20500], chunk: &mut [u8; 4096], page: &mut [u8; 4096]) {
     let mut h = held::start();
     let mut g = held::first_groups();
     let mut input = script::nothing_read();

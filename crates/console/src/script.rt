@@ -61,12 +61,12 @@ pub struct Gathered {
 }
 
 // The bytes up to an LF, the input's end, or the end of the space: no good line is as long as that.
-fn gather(chunk: &mut [u8; 4096], input: Input, line: &mut [u8; 128]) -> Gathered
+fn gather(chunk: &mut [u8; 4096], input: Input, line: &mut [u8]) -> Gathered
     ensures { λ r. ⌜ Counts (r .count) (now (line .exit)) ⌝ }
 {
     let mut now = input;
     let mut count = 0;
-    while count < 128 {
+    while count < line.len() {
         let next = next_byte(chunk, now);
         let Next::Byte(byte, after) = next else {
             break;
