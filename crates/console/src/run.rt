@@ -1,0 +1,101 @@
+// A script run to its end: each line is obeyed, and answered before the next one is read.
+use crate::answers;
+use crate::answers::Said;
+use crate::held;
+use crate::out;
+use crate::script;
+use crate::script::Step;
+use crate::subjects;
+use crate::subjects::Subject;
+use queue_record::refusal::BAD_TEXT;
+
+// A proved run has to end, and no script has so many lines.
+const LINES: u64 = 1000000000000;
+
+// The seven decimals of an answer; whether the output took them.
+fn write_answer(page: &mut [u8; 4096], said: Said, used: u64) -> bool {
+    let seven = [
+        said.result,
+        said.case,
+        said.first,
+        said.second,
+        said.third,
+        said.fourth,
+        used,
+    ];
+    let whole = out::numbers(page, out::fresh(), &seven);
+    let ended = out::end_line(page, whole);
+    ended.open
+}
+
+// Answers a line; whether the run goes on.
+fn tell(page: &mut [u8; 4096], said: Said, line: u64, used: u64) -> bool {
+    if answers::is_shown(said) {
+        return true;
+    }
+    if said.result == BAD_TEXT {
+        write_answer(page, answers::bad_line(line), used);
+        return false;
+    }
+    write_answer(page, said, used)
+}
+
+// Where no line is left the run ends; an empty script has a bad line 1.
+fn tell_end(page: &mut [u8; 4096], step: Step, line: u64, used: u64) {
+    match step {
+        Step::Obey(_, _) => {}
+        Step::BadText => {
+            write_answer(page, answers::bad_line(line), used);
+        }
+        Step::NoMore => {
+            if line == 1 {
+                write_answer(page, answers::bad_line(line), used);
+            }
+        }
+    }
+}
+
+pub fn run(log: &mut [u64; 20500], chunk: &mut [u8; 4096], page: &mut [u8; 4096]) {
+    let mut h = held::start();
+    let mut g = held::first_groups();
+    let mut input = script::nothing_read();
+    let mut line: u64 = 1;
+    while line < LINES {
+        let step = script::next_line(chunk, input);
+        let Step::Obey(call, after) = step else {
+            tell_end(page, step, line, h.used);
+            return;
+        };
+        input = after;
+        let mut said = answers::bad_line(line);
+        let subject = subjects::subject_of(call.number);
+        match subject {
+            Subject::Held => {
+                let turned = subjects::on_held(h, call, log);
+                h = turned.held;
+                said = turned.said;
+            }
+            Subject::Groups => {
+                let grouped = subjects::on_groups(g, call, h);
+                g = grouped.groups;
+                said = grouped.said;
+            }
+            Subject::Seen => {
+                let turned = subjects::on_seen(h, g, call.a);
+                h = turned.held;
+                said = turned.said;
+            }
+            Subject::Shown => said = subjects::show(page, h, g, call.number, log),
+            Subject::All => {
+                h = held::start();
+                g = held::first_groups();
+                said = subjects::all_back(log);
+            }
+            Subject::NoCall => {}
+        }
+        if !tell(page, said, line, h.used) {
+            return;
+        }
+        line += 1;
+    }
+}
