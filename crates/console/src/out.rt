@@ -53,23 +53,19 @@ fn send(page: &[u8], pen: Pen) -> Pen {
     }
 }
 
-// A page with no room for one more number and the line's end is written first.
-fn with_room(page: &[u8], pen: Pen) -> Pen {
-    if pen.at < 4000 {
-        return pen;
-    }
-    send(page, pen)
-}
-
 fn put_digits(page: &mut [u8; 4096], pen: Pen, n: u64) -> Pen {
     let mut digits = [0u8; 20];
     let count = io::decimal(n, &mut digits);
     put_all(page, pen, &digits[..count])
 }
 
-// A number and the comma behind it. Most numbers have one digit, which is quick to write.
+// A number and the comma behind it; a page with no room for them and a line's end is written first.
 pub fn number(page: &mut [u8; 4096], pen: Pen, n: u64) -> Pen {
-    let mut now = with_room(page, pen);
+    let mut now = pen;
+    if 4000 < pen.at {
+        now = send(page, pen);
+    }
+    // Most numbers have one digit, which is quick to write.
     if n < 10 {
         now = put(page, now, b'0' + n as u8);
     } else {
