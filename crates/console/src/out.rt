@@ -9,10 +9,7 @@ pub struct Pen {
 }
 
 pub fn fresh() -> Pen {
-    Pen {
-        at: 0,
-        open: true,
-    }
+    Pen { at: 0, open: true }
 }
 
 fn put(page: &mut [u8; 4096], pen: Pen, byte: u8) -> Pen {
@@ -47,10 +44,7 @@ fn send(page: &[u8], pen: Pen) -> Pen {
         return pen;
     }
     let taken = io::write_all(STDOUT_FILENO, &page[..at]);
-    Pen {
-        at: 0,
-        open: taken,
-    }
+    Pen { at: 0, open: taken }
 }
 
 fn put_digits(page: &mut [u8; 4096], pen: Pen, n: u64) -> Pen {
