@@ -10,7 +10,6 @@ use cleanup_queue::Told;
 use group_lives::Added;
 use group_lives::Closed;
 use group_survey::LenTold;
-use group_check::Got;
 use log_reader::Read;
 use queue_record::refusal::BAD_TEXT;
 
@@ -23,8 +22,8 @@ pub struct Said {
     pub fourth: u64,
 }
 
-// A case with at most one value.
-fn good(case: u64, value: u64) -> Said {
+// A case with at most one value. A line that shows has no case: what it shows is its answer.
+pub fn good(case: u64, value: u64) -> Said {
     Said {
         result: 0,
         case: case,
@@ -40,7 +39,7 @@ pub fn done() -> Said {
 }
 
 // A refusal, and what comes back with it.
-fn refused(refusal: u64, value: u64) -> Said {
+pub fn refused(refusal: u64, value: u64) -> Said {
     Said {
         result: refusal,
         case: 0,
@@ -54,25 +53,6 @@ fn refused(refusal: u64, value: u64) -> Said {
 // No call answers 18, so that it tells a line that can't be obeyed.
 pub fn bad_line(line: u64) -> Said {
     refused(BAD_TEXT, line)
-}
-
-// A line that shows has no answer of its own: no refusal, and no case.
-pub fn shown() -> Said {
-    good(0, 0)
-}
-
-pub fn is_shown(said: Said) -> bool {
-    if said.result != 0 {
-        return false;
-    }
-    said.case == 0
-}
-
-pub fn yes_or_no(yes: bool) -> Said {
-    if yes {
-        return good(2, 0);
-    }
-    good(1, 0)
 }
 
 pub fn told(answer: Told) -> Said {
@@ -172,12 +152,5 @@ pub fn counted(answer: LenTold) -> Said {
     match answer {
         LenTold::Live(count) => good(1, count),
         LenTold::Refused(refusal) => refused(refusal, 0),
-    }
-}
-
-pub fn got(answer: Got) -> Said {
-    match answer {
-        Got::Group => done(),
-        Got::Refused(refusal) => refused(refusal, 0),
     }
 }

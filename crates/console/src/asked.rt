@@ -5,6 +5,7 @@ use crate::script::Call;
 use cleanup_queue::Queue;
 use cleanup_queue::Told;
 use group_record::Groups;
+use queue_questions::say;
 
 pub fn of_queue(q: Queue, number: u64, target: &[u64]) -> Told {
     match number {
@@ -15,7 +16,8 @@ pub fn of_queue(q: Queue, number: u64, target: &[u64]) -> Told {
         24 => cleanup_queue::is_cancelled(q),
         25 => cleanup_queue::has_failed(q),
         26 => cleanup_queue::can_retry(q),
-        _ => cleanup_queue::can_finish(q, target),
+        27 => cleanup_queue::can_finish(q, target),
+        _ => say(cleanup_queue::well_formed(q)),
     }
 }
 
@@ -28,17 +30,17 @@ fn told_of_group(g: Groups, number: u64, id: u64, target: &[u64]) -> Told {
         84 => group_questions::group_is_cancelled(g, id),
         85 => group_questions::group_has_failed(g, id),
         86 => group_questions::group_can_retry(g, id),
-        _ => group_questions::group_can_finish(g, id, target),
+        87 => group_questions::group_can_finish(g, id, target),
+        _ => say(group_check::well_grouped(g)),
     }
 }
 
 pub fn of_group(g: Groups, call: Call, target: &[u64]) -> Said {
     let number = call.number;
-    match number {
-        88 => answers::domain(group_questions::group_domain(g, call.a)),
-        89 => answers::yes_or_no(group_check::well_grouped(g)),
-        _ => answers::told(told_of_group(g, number, call.a, target)),
+    if number == 88 {
+        return answers::domain(group_questions::group_domain(g, call.a));
     }
+    answers::told(told_of_group(g, number, call.a, target))
 }
 
 fn told_of_all(g: Groups, number: u64, id: u64, target: &[u64]) -> Told {
@@ -58,6 +60,9 @@ fn told_of_all(g: Groups, number: u64, id: u64, target: &[u64]) -> Told {
 
 pub fn of_all(g: Groups, call: Call, target: &[u64]) -> Said {
     let number = call.number;
+    if 112 < number {
+        return answers::bad_line(0);
+    }
     if number == 108 {
         return answers::counted(group_survey::len(g));
     }

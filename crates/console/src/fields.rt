@@ -49,22 +49,24 @@ fn with_kind(q: Queue, kind: Kind) -> Queue {
 }
 
 fn set_kind(q: Queue, value: u64) -> Changed {
-    match value {
-        0 => in_range(with_kind(q, Kind::Scope)),
-        1 => in_range(with_kind(q, Kind::Iterator)),
-        _ => out_of_range(q),
-    }
+    let kind = match value {
+        0 => Kind::Scope,
+        1 => Kind::Iterator,
+        _ => return out_of_range(q),
+    };
+    in_range(with_kind(q, kind))
 }
 
 fn set_phase(q: Queue, value: u64) -> Changed {
-    match value {
-        0 => in_range(move_to(q, Phase::Idle)),
-        1 => in_range(move_to(q, Phase::Pending)),
-        2 => in_range(move_to(q, Phase::Ended)),
-        3 => in_range(move_to(q, Phase::Stopping)),
-        4 => in_range(move_to(q, Phase::Closed)),
-        _ => out_of_range(q),
-    }
+    let phase = match value {
+        0 => Phase::Idle,
+        1 => Phase::Pending,
+        2 => Phase::Ended,
+        3 => Phase::Stopping,
+        4 => Phase::Closed,
+        _ => return out_of_range(q),
+    };
+    in_range(move_to(q, phase))
 }
 
 fn set_number(q: Queue, field: u64, value: u64) -> Changed {
@@ -90,22 +92,20 @@ fn set_mark(q: Queue, field: u64, value: u64) -> Changed {
     in_range(after)
 }
 
-fn set_slot(q: Queue, index: u64, value: u64) -> Changed {
-    if 64 <= index {
-        return out_of_range(q);
-    }
+// A slot or a binding.
+fn set_entry(q: Queue, field: u64, index: u64, value: u64) -> Changed {
     let at = index as usize;
     let mut after = q;
-    after.slots[at] = value;
-    in_range(after)
-}
-
-fn set_binding(q: Queue, index: u64, value: u64) -> Changed {
-    if 16 <= index {
+    if field == 3 {
+        if 64 <= at {
+            return out_of_range(q);
+        }
+        after.slots[at] = value;
+        return in_range(after);
+    }
+    if 16 <= at {
         return out_of_range(q);
     }
-    let at = index as usize;
-    let mut after = q;
     after.bindings[at] = value;
     in_range(after)
 }
@@ -123,12 +123,13 @@ pub fn ticket_in(selection: Selection) -> Ticket {
 }
 
 fn set_selected(q: Queue, value: u64) -> Changed {
-    let selection = q.selection;
-    match value {
-        0 => in_range(select(q, Selection::Free)),
-        1 => in_range(select(q, Selection::Of(ticket_in(selection)))),
-        _ => out_of_range(q),
-    }
+    let was = q.selection;
+    let selection = match value {
+        0 => Selection::Free,
+        1 => Selection::Of(ticket_in(was)),
+        _ => return out_of_range(q),
+    };
+    in_range(select(q, selection))
 }
 
 fn set_ticket(q: Queue, field: u64, value: u64) -> Changed {
@@ -146,12 +147,11 @@ pub fn set_field(q: Queue, field: u64, index: u64, value: u64) -> Changed {
     match field {
         0 => set_kind(q, value),
         1 | 2 | 4 | 13 => set_number(q, field, value),
-        3 => set_slot(q, index, value),
+        3 | 12 => set_entry(q, field, index, value),
         5 => set_selected(q, value),
         6 | 7 | 8 => set_ticket(q, field, value),
         9 | 10 => set_mark(q, field, value),
         11 => set_phase(q, value),
-        12 => set_binding(q, index, value),
         _ => out_of_range(q),
     }
 }

@@ -1,76 +1,84 @@
 // The steps of a group by its id, and the retry of all.
 use crate::answers;
-use crate::held::Held;
 use crate::lives::Grouped;
 use crate::lives::leave;
-use crate::plain::ticket;
 use crate::script::Call;
+use cleanup_queue::Ticket;
 use group_record::Groups;
-use group_stages::GroupCancelAnswer;
-use group_steps::GroupCompleteAnswer;
-use group_steps::GroupPopAnswer;
-use group_steps::GroupRegisterAnswer;
-use group_steps::GroupRetryAnswer;
-use group_stages::GroupStageAnswer;
-use group_rounds::RetryAllAnswer;
 
-fn born(a: GroupRegisterAnswer) -> Grouped {
-    let answer = a.answer;
-    let after = a.groups;
+fn birth(g: Groups, call: Call) -> Grouped {
+    let born = if call.number == 70 {
+        group_steps::register(g, call.a, call.b)
+    } else {
+        group_steps::land(g, call.a, call.b)
+    };
+    let answer = born.answer;
+    let after = born.groups;
     leave(after, answers::born(answer))
 }
 
-fn popped(a: GroupPopAnswer) -> Grouped {
-    let answer = a.answer;
-    let after = a.groups;
+fn pop(g: Groups, id: u64) -> Grouped {
+    let popped = group_steps::pop(g, id);
+    let answer = popped.answer;
+    let after = popped.groups;
     leave(after, answers::popped(answer))
 }
 
-fn completed(a: GroupCompleteAnswer) -> Grouped {
-    let answer = a.answer;
-    let after = a.groups;
+// A complete by id has no column left for the kept number, so that one is held, as the domain is.
+fn complete(g: Groups, call: Call, domain: u64, kept: u64) -> Grouped {
+    let ticket = Ticket {
+        domain: domain,
+        token: call.b,
+        attempt: call.c,
+    };
+    let completed = group_steps::complete(g, call.a, ticket, call.d, kept);
+    let answer = completed.answer;
+    let after = completed.groups;
     leave(after, answers::completed(answer))
 }
 
-fn retried(a: GroupRetryAnswer) -> Grouped {
-    let answer = a.answer;
-    let after = a.groups;
+fn retry(g: Groups, id: u64) -> Grouped {
+    let retried = group_steps::retry(g, id);
+    let answer = retried.answer;
+    let after = retried.groups;
     leave(after, answers::retried(answer))
 }
 
-fn staged(a: GroupStageAnswer) -> Grouped {
-    let answer = a.answer;
-    let after = a.groups;
+fn stage(g: Groups, call: Call, list: &[u64]) -> Grouped {
+    let number = call.number;
+    let staged = match number {
+        75 => group_stages::admit(g, call.a, list),
+        76 => group_stages::admit_without(g, call.a),
+        _ => group_stages::end(g, call.a),
+    };
+    let answer = staged.answer;
+    let after = staged.groups;
     leave(after, answers::told(answer))
 }
 
-fn cancelled(a: GroupCancelAnswer) -> Grouped {
-    let answer = a.answer;
-    let after = a.groups;
+fn cancel(g: Groups, id: u64) -> Grouped {
+    let cancelled = group_stages::cancel(g, id);
+    let answer = cancelled.answer;
+    let after = cancelled.groups;
     leave(after, answers::cancelled(answer))
 }
 
-fn all_retried(a: RetryAllAnswer) -> Grouped {
-    let answer = a.answer;
-    let after = a.groups;
+pub fn retry_all(g: Groups) -> Grouped {
+    let retried = group_rounds::retry_all(g);
+    let answer = retried.answer;
+    let after = retried.groups;
     leave(after, answers::told(answer))
 }
 
-// A complete by id has no column left for the kept number, so that one is held.
-pub fn step(g: Groups, call: Call, list: &[u64], h: Held) -> Grouped {
-    let id = call.a;
-    let t = ticket(h, call.b, call.c);
+pub fn step(g: Groups, call: Call, list: &[u64], domain: u64, kept: u64) -> Grouped {
     let number = call.number;
     match number {
-        70 => born(group_steps::register(g, id, call.b)),
-        71 => born(group_steps::land(g, id, call.b)),
-        72 => popped(group_steps::pop(g, id)),
-        73 => completed(group_steps::complete(g, id, t, call.d, h.kept)),
-        74 => retried(group_steps::retry(g, id)),
-        75 => staged(group_stages::admit(g, id, list)),
-        76 => staged(group_stages::admit_without(g, id)),
-        77 => staged(group_stages::end(g, id)),
-        78 => cancelled(group_stages::cancel(g, id)),
-        _ => all_retried(group_rounds::retry_all(g)),
+        70 | 71 => birth(g, call),
+        72 => pop(g, call.a),
+        73 => complete(g, call, domain, kept),
+        74 => retry(g, call.a),
+        75 | 76 | 77 => stage(g, call, list),
+        78 => cancel(g, call.a),
+        _ => leave(g, answers::bad_line(0)),
     }
 }

@@ -2,9 +2,6 @@
 use crate::answers;
 use crate::answers::Said;
 use crate::script::Call;
-use group_lives::AddAnswer;
-use group_lives::CloseAnswer;
-use group_lives::NewAnswer;
 use group_record::Groups;
 
 pub struct Grouped {
@@ -19,31 +16,41 @@ pub fn leave(g: Groups, said: Said) -> Grouped {
     }
 }
 
-fn made(a: NewAnswer) -> Grouped {
-    let answer = a.answer;
-    let after = a.groups;
+fn make(base: u64) -> Grouped {
+    let made = group_lives::new(base);
+    let answer = made.answer;
+    let after = made.groups;
     leave(after, answers::opened(answer))
 }
 
-fn added(a: AddAnswer) -> Grouped {
-    let answer = a.answer;
-    let after = a.groups;
+fn add(g: Groups, call: Call, list: &[u64]) -> Grouped {
+    let added = if call.number == 61 {
+        group_lives::add_scope(g)
+    } else {
+        group_lives::add_iterator(g, list)
+    };
+    let answer = added.answer;
+    let after = added.groups;
     leave(after, answers::added(answer))
 }
 
-fn closed(a: CloseAnswer) -> Grouped {
-    let answer = a.answer;
-    let after = a.groups;
+fn close(g: Groups, call: Call) -> Grouped {
+    let closed = if call.number == 63 {
+        group_lives::remove(g, call.a)
+    } else {
+        group_lives::seal(g)
+    };
+    let answer = closed.answer;
+    let after = closed.groups;
     leave(after, answers::closed(answer))
 }
 
 pub fn come_or_go(g: Groups, call: Call, list: &[u64]) -> Grouped {
     let number = call.number;
     match number {
-        60 => made(group_lives::new(call.a)),
-        61 => added(group_lives::add_scope(g)),
-        62 => added(group_lives::add_iterator(g, list)),
-        63 => closed(group_lives::remove(g, call.a)),
-        _ => closed(group_lives::seal(g)),
+        60 => make(call.a),
+        61 | 62 => add(g, call, list),
+        63 | 64 => close(g, call),
+        _ => leave(g, answers::bad_line(0)),
     }
 }

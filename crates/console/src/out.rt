@@ -9,10 +9,7 @@ pub struct Pen {
 }
 
 pub fn fresh() -> Pen {
-    Pen {
-        at: 0,
-        open: true,
-    }
+    Pen { at: 0, open: true }
 }
 
 fn put(page: &mut [u8; 4096], pen: Pen, byte: u8) -> Pen {
@@ -47,18 +44,7 @@ fn send(page: &[u8], pen: Pen) -> Pen {
         return pen;
     }
     let taken = io::write_all(STDOUT_FILENO, &page[..at]);
-    Pen {
-        at: 0,
-        open: taken,
-    }
-}
-
-// A page with no room for one more number and the line's end is written first.
-fn with_room(page: &[u8], pen: Pen) -> Pen {
-    if pen.at < 4000 {
-        return pen;
-    }
-    send(page, pen)
+    Pen { at: 0, open: taken }
 }
 
 fn put_digits(page: &mut [u8; 4096], pen: Pen, n: u64) -> Pen {
@@ -67,9 +53,13 @@ fn put_digits(page: &mut [u8; 4096], pen: Pen, n: u64) -> Pen {
     put_all(page, pen, &digits[..count])
 }
 
-// A number and the comma behind it. Most numbers have one digit, which is quick to write.
+// A number and the comma behind it; a page with no room for them and a line's end is written first.
 pub fn number(page: &mut [u8; 4096], pen: Pen, n: u64) -> Pen {
-    let mut now = with_room(page, pen);
+    let mut now = pen;
+    if 4000 < pen.at {
+        now = send(page, pen);
+    }
+    // Most numbers have one digit, which is quick to write.
     if n < 10 {
         now = put(page, now, b'0' + n as u8);
     } else {

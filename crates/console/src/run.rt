@@ -4,7 +4,9 @@ use crate::answers::Said;
 use crate::held;
 use crate::out;
 use crate::script;
+use crate::script::Input;
 use crate::script::Step;
+use crate::setting;
 use crate::subjects;
 use crate::subjects::Subject;
 use queue_record::refusal::BAD_TEXT;
@@ -30,12 +32,14 @@ fn write_answer(page: &mut [u8; 4096], said: Said, used: u64) -> bool {
 
 // Answers a line; whether the run goes on.
 fn tell(page: &mut [u8; 4096], said: Said, line: u64, used: u64) -> bool {
-    if answers::is_shown(said) {
-        return true;
-    }
     if said.result == BAD_TEXT {
         write_answer(page, answers::bad_line(line), used);
         return false;
+    }
+    if said.result == 0 {
+        if said.case == 0 {
+            return true;
+        }
     }
     write_answer(page, said, used)
 }
@@ -58,7 +62,7 @@ fn tell_end(page: &mut [u8; 4096], step: Step, line: u64, used: u64) {
 pub fn run(log: &mut [u64; 20500], chunk: &mut [u8; 4096], page: &mut [u8; 4096]) {
     let mut h = held::start();
     let mut g = held::first_groups();
-    let mut input = script::nothing_read();
+    let mut input = Input { at: 0, end: 0 };
     let mut line: u64 = 1;
     while line < LINES {
         let step = script::next_line(chunk, input);
@@ -67,7 +71,7 @@ pub fn run(log: &mut [u64; 20500], chunk: &mut [u8; 4096], page: &mut [u8; 4096]
             return;
         };
         input = after;
-        let mut said = answers::bad_line(line);
+        let mut said = answers::bad_line(0);
         let subject = subjects::subject_of(call.number);
         match subject {
             Subject::Held => {
@@ -89,7 +93,8 @@ pub fn run(log: &mut [u64; 20500], chunk: &mut [u8; 4096], page: &mut [u8; 4096]
             Subject::All => {
                 h = held::start();
                 g = held::first_groups();
-                said = subjects::all_back(log);
+                setting::clear(log);
+                said = answers::done();
             }
             Subject::NoCall => {}
         }

@@ -2,7 +2,6 @@
 use csv::Line;
 use csv::line_at;
 use libc::STDIN_FILENO;
-use log_rows::Row;
 ghost use Rattle.io.specs.Counts.{Counts};
 
 pub struct Call {
@@ -17,10 +16,6 @@ pub struct Call {
 pub struct Input {
     pub at: usize,
     pub end: usize,
-}
-
-pub fn nothing_read() -> Input {
-    Input { at: 0, end: 0 }
 }
 
 fn refilled(chunk: &mut [u8; 4096], input: Input) -> Input {
@@ -84,16 +79,6 @@ fn gather(chunk: &mut [u8; 4096], input: Input, line: &mut [u8]) -> Gathered
     }
 }
 
-fn call_of(row: Row) -> Call {
-    Call {
-        number: row.kind,
-        a: row.token,
-        b: row.attempt,
-        c: row.outcome,
-        d: row.number,
-    }
-}
-
 pub enum Step {
     Obey(Call, Input),
     BadText,
@@ -112,5 +97,14 @@ pub fn next_line(chunk: &mut [u8; 4096], input: Input) -> Step {
         return Step::BadText;
     };
     let after = got.input;
-    Step::Obey(call_of(row), after)
+    Step::Obey(
+        Call {
+            number: row.kind,
+            a: row.token,
+            b: row.attempt,
+            c: row.outcome,
+            d: row.number,
+        },
+        after,
+    )
 }

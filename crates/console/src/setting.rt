@@ -8,21 +8,19 @@ use crate::held::no_call;
 use crate::held::unchanged;
 use crate::script::Call;
 
-fn set(h: Held) -> Turned {
-    unchanged(h, answers::done())
-}
-
-fn hold(h: Held, domain: u64, kept: u64) -> Turned {
+// The held domain and number, the empty list, or the used count.
+fn set_number(h: Held, call: Call) -> Turned {
     let mut after = h;
-    after.domain = domain;
-    after.kept = kept;
-    set(after)
-}
-
-fn empty_list(h: Held) -> Turned {
-    let mut after = h;
-    after.listed = 0;
-    set(after)
+    let number = call.number;
+    match number {
+        90 => {
+            after.domain = call.a;
+            after.kept = call.b;
+        }
+        120 => after.listed = 0,
+        _ => after.used = call.a,
+    }
+    unchanged(after, answers::done())
 }
 
 fn longer_list(h: Held, value: u64) -> Turned {
@@ -33,7 +31,7 @@ fn longer_list(h: Held, value: u64) -> Turned {
     let mut after = h;
     after.list[at] = value;
     after.listed = at + 1;
-    set(after)
+    unchanged(after, answers::done())
 }
 
 fn set_queue(h: Held, call: Call) -> Turned {
@@ -51,34 +49,27 @@ fn set_word(h: Held, log: &mut [u64], at: usize, value: u64) -> Turned {
         return no_call(h);
     }
     log[at] = value;
-    set(h)
+    unchanged(h, answers::done())
 }
 
-fn lend(h: Held, log: &[u64], words: usize) -> Turned {
-    if log.len() < words {
+fn lend(h: Held, words: usize) -> Turned {
+    if 20500 < words {
         return no_call(h);
     }
     let mut after = h;
     after.lent = words;
-    set(after)
-}
-
-fn set_used(h: Held, used: u64) -> Turned {
-    let mut after = h;
-    after.used = used;
-    set(after)
+    unchanged(after, answers::done())
 }
 
 pub fn set_held(h: Held, call: Call, log: &mut [u64]) -> Turned {
     let number = call.number;
     match number {
-        90 => hold(h, call.a, call.b),
-        120 => empty_list(h),
+        90 | 120 | 136 => set_number(h, call),
         121 => longer_list(h, call.a),
         130 => set_queue(h, call),
         134 => set_word(h, log, call.a as usize, call.b),
-        135 => lend(h, log, call.a as usize),
-        _ => set_used(h, call.a),
+        135 => lend(h, call.a as usize),
+        _ => no_call(h),
     }
 }
 

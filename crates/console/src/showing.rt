@@ -10,7 +10,6 @@ use cleanup_queue::Phase;
 use cleanup_queue::Queue;
 use cleanup_queue::Selection;
 use group_record::Groups;
-use group_record::Place;
 
 fn bit(yes: bool) -> u64 {
     if yes {
@@ -85,13 +84,6 @@ pub fn show_log(page: &mut [u8; 4096], pen: Pen, log: &[u64], used: u64) -> Pen 
     end_line(page, whole)
 }
 
-fn show_place(page: &mut [u8; 4096], pen: Pen, place: Place) -> Pen {
-    let q = place.queue;
-    let named = number(page, pen, place.id);
-    let marked = number(page, named, bit(place.live));
-    show_queue(page, marked, q)
-}
-
 pub fn show_groups(page: &mut [u8; 4096], pen: Pen, g: Groups) -> Pen {
     let three = [g.base, g.next, bit(g.sealed)];
     let first = numbers(page, pen, &three);
@@ -99,7 +91,10 @@ pub fn show_groups(page: &mut [u8; 4096], pen: Pen, g: Groups) -> Pen {
     let mut i = 0;
     while i < 16 {
         let place = g.places[i];
-        now = show_place(page, now, place);
+        let q = place.queue;
+        let two = [place.id, bit(place.live)];
+        let named = numbers(page, now, &two);
+        now = show_queue(page, named, q);
         i += 1;
     }
     now

@@ -31,63 +31,62 @@ pub enum Subject {
     NoCall,
 }
 
-pub fn subject_of(number: u64) -> Subject {
-    match number {
-        0 | 1 | 10..=18 | 20..=38 | 42 | 43 | 50 | 90 => Subject::Held,
-        120 | 121 | 130 | 134..=136 => Subject::Held,
-        60..=64 | 70..=78 | 80..=89 | 100..=109 | 111 | 112 => Subject::Groups,
-        131..=133 => Subject::Groups,
-        110 => Subject::Seen,
-        140..=143 => Subject::Shown,
-        150 => Subject::All,
+// By tens; a number that names no call is found out by its part.
+fn subject_of_ten(ten: u64) -> Subject {
+    match ten {
+        0 | 1 | 2 | 3 | 4 | 5 | 9 | 12 | 13 => Subject::Held,
+        6 | 7 | 8 | 10 | 11 => Subject::Groups,
         _ => Subject::NoCall,
     }
 }
 
-// The calls that take the list, and none of the log.
-fn on_queue(h: Held, call: Call) -> Turned {
-    let list = h.list;
-    let count = first_of(h.listed, &list);
-    let number = call.number;
+pub fn subject_of(number: u64) -> Subject {
     match number {
-        0 | 1 => plain::open(h, call, &list[..count]),
-        20..=29 => plain::question(h, call, &list[..count]),
-        _ => plain::step(h, call, &list[..count]),
+        110 => Subject::Seen,
+        131 | 132 | 133 => Subject::Groups,
+        140 | 141 | 142 | 143 => Subject::Shown,
+        150 => Subject::All,
+        _ => subject_of_ten(number / 10),
     }
 }
 
 // The recorded calls and the reader.
-fn on_log(h: Held, call: Call, log: &mut [u64]) -> Turned {
-    let list = h.list;
-    let count = first_of(h.listed, &list);
+fn on_log(h: Held, call: Call, list: &[u64], log: &mut [u64]) -> Turned {
+    let lent = first_of(h.lent, log);
     if call.number == 50 {
-        return recorded::read(h, call, &list[..count], log);
+        return recorded::read(h, call, list, &log[..lent]);
     }
-    recorded::step(h, call, &list[..count], log)
+    recorded::step(h, call, list, &mut log[..lent])
 }
 
 pub fn on_held(h: Held, call: Call, log: &mut [u64]) -> Turned {
-    let number = call.number;
-    match number {
-        30..=38 | 50 => {
-            let lent = first_of(h.lent, log);
-            on_log(h, call, &mut log[..lent])
-        }
-        90..=136 => setting::set_held(h, call, log),
-        _ => on_queue(h, call),
+    let all = h.list;
+    let count = first_of(h.listed, &all);
+    let list = &all[..count];
+    let ten = call.number / 10;
+    match ten {
+        0 => plain::open(h, call, list),
+        1 | 4 => plain::step(h, call, list),
+        2 => plain::question(h, call, list),
+        3 | 5 => on_log(h, call, list, log),
+        _ => setting::set_held(h, call, log),
     }
 }
 
 pub fn on_groups(g: Groups, call: Call, h: Held) -> Grouped {
-    let list = h.list;
-    let count = first_of(h.listed, &list);
-    let number = call.number;
-    match number {
-        60..=64 => lives::come_or_go(g, call, &list[..count]),
-        70..=78 | 104 => grouped::step(g, call, &list[..count], h),
-        80..=89 => lives::leave(g, asked::of_group(g, call, &list[..count])),
-        131..=133 => places::set_groups(g, call),
-        _ => lives::leave(g, asked::of_all(g, call, &list[..count])),
+    if call.number == 104 {
+        return grouped::retry_all(g);
+    }
+    let all = h.list;
+    let count = first_of(h.listed, &all);
+    let list = &all[..count];
+    let ten = call.number / 10;
+    match ten {
+        6 => lives::come_or_go(g, call, list),
+        7 => grouped::step(g, call, list, h.domain, h.kept),
+        8 => lives::leave(g, asked::of_group(g, call, list)),
+        13 => places::set_groups(g, call),
+        _ => lives::leave(g, asked::of_all(g, call, list)),
     }
 }
 
@@ -96,23 +95,18 @@ pub fn on_seen(h: Held, g: Groups, id: u64) -> Turned {
     let found = group_check::get(g, id);
     let answer = found.answer;
     let q = found.queue;
-    let Got::Group = answer else {
-        return unchanged(h, answers::got(answer));
-    };
-    keep_seen(h, q, answers::got(answer))
+    match answer {
+        Got::Group => keep_seen(h, q, answers::done()),
+        Got::Refused(refusal) => unchanged(h, answers::refused(refusal, 0)),
+    }
 }
 
 pub fn show(page: &mut [u8; 4096], h: Held, g: Groups, number: u64, log: &[u64]) -> Said {
     if number == 143 {
         showing::show_groups(page, out::fresh(), g);
-        return answers::shown();
+        return answers::good(0, 0);
     }
     let lent = first_of(h.lent, log);
     showing::show_held(page, out::fresh(), h, number, &log[..lent]);
-    answers::shown()
-}
-
-pub fn all_back(log: &mut [u64]) -> Said {
-    setting::clear(log);
-    answers::done()
+    answers::good(0, 0)
 }
