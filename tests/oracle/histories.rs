@@ -79,7 +79,7 @@ fn staged(maker: &mut Maker, way: Way, queue: &Queue) {
 }
 
 // A call that mostly fits the state, and now and then doesn't.
-fn one_call(maker: &mut Maker, way: Way) {
+pub fn one_call(maker: &mut Maker, way: Way) {
     let queue = maker.queue(way);
     let undo = number(&mut maker.random);
     match maker.random.below(100) {
@@ -162,8 +162,10 @@ pub fn queue_history(maker: &mut Maker) {
     maker.open(iterator, domain, first, &committed);
     for _ in 0..maker.random.between(10, 160) {
         let way = pick_way(maker, leaning);
+        let before = maker.console.queue;
         one_call(maker, way);
-        if maker.random.chance(330) {
+        let often = if maker.console.queue == before { 200 } else { 700 };
+        if maker.random.chance(often) {
             maker.show();
         }
         if maker.random.chance(120) {
@@ -254,7 +256,7 @@ fn group_turn(maker: &mut Maker) {
         38..=40 => drain(maker, id),
         _ => {
             one_call(maker, Way::Group(id));
-            if maker.random.chance(200) {
+            if maker.random.chance(300) {
                 maker.say(&[110, id]);
                 maker.say(&[141]);
             }
@@ -267,12 +269,16 @@ pub fn group_history(maker: &mut Maker) {
     let bases = [0, 0, 1, 700, 1 << 63, LARGEST_BASE - 1, LARGEST_BASE];
     let base = maker.random.pick(&bases);
     maker.say(&[60, base]);
+    // A refused one is empty, and only there can id 0 be an iterator.
+    if maker.random.chance(150) {
+        maker.say(&[60, LARGEST_BASE + 1]);
+    }
     for _ in 0..maker.random.between(1, 3) {
         open_or_close(maker);
     }
     for _ in 0..maker.random.between(10, 120) {
         group_turn(maker);
-        if maker.random.chance(22) {
+        if maker.random.chance(60) {
             maker.say(&[143]);
         }
         if maker.console.groups.sealed && maker.random.chance(80) {

@@ -34,6 +34,7 @@ mod shrink;
 mod situations;
 mod spoiled;
 mod text;
+mod unseen;
 
 use random::Random;
 use std::collections::BTreeMap;
