@@ -64,7 +64,7 @@ fn push_line(out: &mut Vec<u8>, values: &[u64]) {
 }
 
 // The call of this kind, from register 0 to cancel 8, with these four numbers.
-fn named<'a>(kind: u64, args: [u64; 4], held_domain: u64, list: &'a [u64]) -> Option<Call<'a>> {
+pub fn named<'a>(kind: u64, args: [u64; 4], held_domain: u64, list: &'a [u64]) -> Option<Call<'a>> {
     let [a, b, c, d] = args;
     let ticket = Ticket { domain: held_domain, token: a, attempt: b };
     Some(match kind {

@@ -264,7 +264,7 @@ fn group_turn(maker: &mut Maker) {
     }
 }
 
-pub fn group_history(maker: &mut Maker) {
+fn some_groups(maker: &mut Maker) {
     maker.reset();
     let bases = [0, 0, 1, 700, 1 << 63, LARGEST_BASE - 1, LARGEST_BASE];
     let base = maker.random.pick(&bases);
@@ -276,6 +276,18 @@ pub fn group_history(maker: &mut Maker) {
     for _ in 0..maker.random.between(1, 3) {
         open_or_close(maker);
     }
+}
+
+// A short one, for what comes behind it.
+pub fn few_groups(maker: &mut Maker) {
+    some_groups(maker);
+    for _ in 0..maker.random.between(2, 20) {
+        group_turn(maker);
+    }
+}
+
+pub fn group_history(maker: &mut Maker) {
+    some_groups(maker);
     for _ in 0..maker.random.between(10, 120) {
         group_turn(maker);
         if maker.random.chance(60) {

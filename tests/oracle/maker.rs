@@ -59,14 +59,14 @@ fn numbered(way: Way, kind: u64) -> u64 {
 }
 
 impl Maker {
-    pub fn new(seed: u64, watched: bool) -> Maker {
+    pub fn new(seed: u64, seen: Seen) -> Maker {
         Maker {
             random: Random::new(seed),
             console: Console::new(),
             script: Vec::new(),
             want: Vec::new(),
             calls: 0,
-            seen: Seen::new(watched),
+            seen,
             unseen: [false; 4],
         }
     }

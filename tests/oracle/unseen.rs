@@ -24,8 +24,11 @@ pub fn overwritten(number: u64) -> Records {
     [queue, seen, log, groups]
 }
 
-// What is still unseen after this line.
+// What is still unseen after this line; a reset makes everything new.
 pub fn after(unseen: Records, number: u64) -> Records {
+    if number == 150 {
+        return [false; 4];
+    }
     let met = met(number);
     let shown = |place: usize| number == 140 + place as u64;
     std::array::from_fn(|place| (unseen[place] && !shown(place)) || met[place])
