@@ -10,9 +10,10 @@ use crate::rows::TOP;
 const FIRSTS: [u64; 9] = [0, 0, 0, 1, 7, 1 << 63, TOP - 12, TOP - 3, TOP];
 const DOMAINS: [u64; 6] = [0, 1, 5, 5, TOP - 1, TOP];
 
-// Few different members, so that targets often fit and often nearly fit.
+// Few different members, so that targets often fit and often nearly fit; seldom as many as may be.
 fn bindings(maker: &mut Maker, most: usize) -> Vec<u64> {
-    let count = maker.random.between(0, most);
+    let many = maker.random.chance(40);
+    let count = if many { maker.random.pick(&[15, 16, 17, 64]) } else { maker.random.between(0, most) };
     (0..count).map(|_| maker.random.pick(&[0, 1, 4, 9, 9, TOP])).collect()
 }
 

@@ -6,6 +6,7 @@ mod bounds;
 mod calls;
 mod clauses;
 mod console;
+mod corners;
 mod coverage;
 mod damage;
 mod differ;

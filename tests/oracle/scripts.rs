@@ -2,6 +2,7 @@
 
 use crate::badlines;
 use crate::bounds;
+use crate::corners;
 use crate::coverage::Seen;
 use crate::edges;
 use crate::groupedges;
@@ -15,7 +16,8 @@ use crate::text;
 type Piece = fn(&mut Maker, usize);
 
 // The classes whose pieces are counted; each piece comes once before histories fill the rest.
-const COUNTED: [(fn() -> usize, Piece); 5] = [
+const COUNTED: [(fn() -> usize, Piece); 6] = [
+    (corners::count, corners::piece),
     (edges::count, edges::piece),
     (groupedges::count, groupedges::piece),
     (bounds::count, bounds::piece),
