@@ -472,12 +472,27 @@ fn odd_ends() -> bool {
         && console::output(b"") == b"18,0,1,0,0,0,0\r\n"
 }
 
+// All cases as one script with the answers as they stand here, parted by resets and ended by a bad line.
+pub fn one_script() -> (Vec<u8>, Vec<u8>) {
+    let (mut script, mut want) = (String::new(), String::new());
+    for (line, answer) in MARKED.iter().chain(GROUPS).flat_map(|case| case.1.iter().chain(&[("150", DONE)])) {
+        script += &whole(line);
+        want += &format!("{answer}\r\n");
+    }
+    let lines = script.lines().count();
+    script += &whole("200");
+    want += &format!("18,0,{},0,0,0,0\r\n", lines + 1);
+    (script.into_bytes(), want.into_bytes())
+}
+
 // Every check with its name.
 pub fn all() -> Vec<(String, bool)> {
     let mut checks: Vec<(String, bool)> = Vec::new();
     for case in MARKED.iter().chain(GROUPS) {
         checks.push((format!("console: {}", case.0), case_right(case)));
     }
+    let (script, want) = one_script();
+    checks.push(("console: all cases as one script".to_string(), console::output(&script) == want));
     checks.push(("console: W12".to_string(), twelfth()));
     checks.push(("console: the 17th group".to_string(), seventeenth_group()));
     checks.push(("console: 12 before 14".to_string(), sealed_before_bindings()));

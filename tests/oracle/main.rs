@@ -55,6 +55,7 @@ oracle selftest
 oracle console < SCRIPT
 oracle scripts SEED CALLS FOLDER
 oracle badlines FOLDER
+oracle handwork SCRIPT WANT
 oracle differ SCRIPT WANT GOT
 oracle coverage SEED CALLS
 oracle shrink SCRIPT PROGRAM ARGS..";
@@ -214,6 +215,12 @@ fn badlines(folder: &str) -> Outcome {
     Ok(())
 }
 
+fn handwork(to: &str, want: &str) -> Outcome {
+    let (script, answers) = handwork::one_script();
+    to_file(to, &script)?;
+    to_file(want, &answers)
+}
+
 fn differ(script: &str, want: &str, got: &str) -> Outcome {
     let told = differ::compare(&from_file(script)?, &from_file(want)?, &from_file(got)?)?;
     println!("{told}");
@@ -268,6 +275,7 @@ fn run(words: &[&str]) -> Outcome {
         ["console"] => console(),
         ["scripts", seed, calls, folder] => scripts(number(seed)?, number(calls)?, folder),
         ["badlines", folder] => badlines(folder),
+        ["handwork", to, want] => handwork(to, want),
         ["differ", from, want, got] => differ(from, want, got),
         ["coverage", seed, calls] => coverage(number(seed)?, number(calls)?),
         ["shrink", from, program, args @ ..] => shrink(from, program, args),
