@@ -117,8 +117,14 @@ pub fn scripts() -> Vec<Vec<u8>> {
         [b"30,5,0,0,0\r\n", &lead(bad)[..], bad.line.as_bytes(), b"\r\n12,0,0,0,0\r\n"].concat()
     };
     let mut all: Vec<Vec<u8>> = ALL.iter().map(whole).collect();
-    let ends: [&[u8]; 6] =
-        [b"", b"\r\n", b"12,0,0,0,0", b"12,0,0,0,0\r", b"12,0,0,0,0\r\n\r\n", b"30,5,0,0,0\r\n12,0,0"];
+    let ends: [&[u8]; 6] = [
+        b"",
+        b"\r\n",
+        b"12,0,0,0,0",
+        b"12,0,0,0,0\r",
+        b"12,0,0,0,0\r\n\r\n",
+        b"30,5,0,0,0\r\n12,0,0",
+    ];
     all.extend(ends.iter().map(|end| end.to_vec()));
     all
 }

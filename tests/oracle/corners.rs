@@ -74,7 +74,9 @@ fn every_queue_field(maker: &mut Maker) {
         }
         maker.show();
     }
-    for (field, value) in [(11, 4), (11, 3), (11, 2), (11, 0), (5, 1), (5, 0), (5, 1), (9, 0), (0, 0)] {
+    for (field, value) in
+        [(11, 4), (11, 3), (11, 2), (11, 0), (5, 1), (5, 0), (5, 1), (9, 0), (0, 0)]
+    {
         maker.say(&[130, field, 0, value]);
         maker.show();
     }
@@ -86,7 +88,8 @@ fn every_place_field(maker: &mut Maker) {
         maker.say(&[132, place, 0, 300 + place]);
         maker.say(&[132, place, 1, place % 2]);
         for field in 0..14 {
-            let value = if matches!(field, 0 | 5 | 9 | 10 | 11) { place % 2 } else { 100 * place + field };
+            let value =
+                if matches!(field, 0 | 5 | 9 | 10 | 11) { place % 2 } else { 100 * place + field };
             maker.say(&[133, place, field, place, value]);
         }
         maker.say(&[133, place, 3, 63 - place, 7]);

@@ -190,7 +190,8 @@ impl Seen {
         let (cases, refusals): (Vec<_>, Vec<_>) = (cases.collect(), refusals.collect());
         let never = cases.iter().chain(&refusals).filter(|(_, count)| *count == 0).count();
         let told = |cells: &[(u64, u64)]| {
-            let cells: Vec<String> = cells.iter().map(|(no, count)| format!("{no}: {count}")).collect();
+            let cells: Vec<String> =
+                cells.iter().map(|(no, count)| format!("{no}: {count}")).collect();
             cells.join(", ")
         };
         let (cases, refusals) = (told(&cases), told(&refusals));
@@ -232,7 +233,8 @@ impl Seen {
         };
         let strange =
             self.answers.keys().filter(|(call, result, case)| !listed(*call, *result, *case));
-        let told = strange.map(|(call, result, case)| format!("{call}: result {result}, case {case}"));
+        let told =
+            strange.map(|(call, result, case)| format!("{call}: result {result}, case {case}"));
         let known = |name: &&'static str| {
             situations::NAMES.contains(name) || limitsmet::NAMES.contains(name)
         };

@@ -475,7 +475,9 @@ fn odd_ends() -> bool {
 // All cases as one script with the answers as they stand here, parted by resets and ended by a bad line.
 pub fn one_script() -> (Vec<u8>, Vec<u8>) {
     let (mut script, mut want) = (String::new(), String::new());
-    for (line, answer) in MARKED.iter().chain(GROUPS).flat_map(|case| case.1.iter().chain(&[("150", DONE)])) {
+    for (line, answer) in
+        MARKED.iter().chain(GROUPS).flat_map(|case| case.1.iter().chain(&[("150", DONE)]))
+    {
         script += &whole(line);
         want += &format!("{answer}\r\n");
     }

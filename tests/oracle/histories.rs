@@ -13,7 +13,8 @@ const DOMAINS: [u64; 6] = [0, 1, 5, 5, TOP - 1, TOP];
 // Few different members, so that targets often fit and often nearly fit; seldom as many as may be.
 fn bindings(maker: &mut Maker, most: usize) -> Vec<u64> {
     let many = maker.random.chance(40);
-    let count = if many { maker.random.pick(&[15, 16, 17, 64]) } else { maker.random.between(0, most) };
+    let count =
+        if many { maker.random.pick(&[15, 16, 17, 64]) } else { maker.random.between(0, most) };
     (0..count).map(|_| maker.random.pick(&[0, 1, 4, 9, 9, TOP])).collect()
 }
 

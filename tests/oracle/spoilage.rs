@@ -42,7 +42,8 @@ fn queue_state(queue: &Queue) -> [u64; 5] {
 
 fn groups_state(groups: &Groups) -> [u64; 5] {
     let live = groups.places.iter().filter(|place| place.live);
-    let count = |of: fn(&Queue) -> bool| live.clone().filter(|place| of(&place.queue)).count() as u64;
+    let count =
+        |of: fn(&Queue) -> bool| live.clone().filter(|place| of(&place.queue)).count() as u64;
     let all = live.clone().count() as u64;
     let selected = count(|queue| queue.selected.is_some());
     [all, u64::from(groups.sealed), selected, count(|queue| queue.failed), groups.next.min(20)]
@@ -77,17 +78,20 @@ impl Spoilage {
         let (name, clauses, least) = RECORDS[record];
         let none = Met::default();
         let met = self.met.get(&(record, clause)).unwrap_or(&none);
-        let due = |number: &u64| if record == 0 { is_of_queue(*number) } else { is_of_groups(*number) };
+        let due =
+            |number: &u64| if record == 0 { is_of_queue(*number) } else { is_of_groups(*number) };
         let all: Vec<u64> = (0..150).filter(due).collect();
         let lacking = all.iter().filter(|number| !met.numbers.contains(number)).count();
         let (seen, of, states) = (met.numbers.len(), all.len(), met.states.len());
         let calls = met.calls;
-        let told = format!("| {name} | {} | {calls} | {seen} of {of} | {states} |", clauses[clause]);
+        let told =
+            format!("| {name} | {} | {calls} | {seen} of {of} | {states} |", clauses[clause]);
         (told, lacking + least.saturating_sub(states))
     }
 
     pub fn rows(&self) -> Vec<(String, usize)> {
-        let clauses = |record: usize| (0..RECORDS[record].1.len()).map(move |clause| (record, clause));
+        let clauses =
+            |record: usize| (0..RECORDS[record].1.len()).map(move |clause| (record, clause));
         let all = (0..RECORDS.len()).flat_map(clauses);
         all.map(|(record, clause)| self.row(record, clause)).collect()
     }

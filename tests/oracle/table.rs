@@ -66,7 +66,8 @@ pub fn page(seed: u64, made: &scripts::Made) -> (String, Vec<String>) {
     let lacking: Vec<&(String, usize)> =
         parts.iter().flat_map(|(_, rows)| rows).filter(|(_, never)| *never > 0).collect();
     let never = lacking.iter().map(|(_, never)| never).sum();
-    let mut wrong: Vec<String> = lacking.iter().map(|(told, _)| format!("never seen: {told}")).collect();
+    let mut wrong: Vec<String> =
+        lacking.iter().map(|(told, _)| format!("never seen: {told}")).collect();
     wrong.extend(seen.unlisted().into_iter().map(|told| format!("not listed: {told}")));
     if seen.lost + seen.left_out > 0 {
         wrong.push(format!("{} records unseen, {} pieces left out", seen.lost, seen.left_out));
