@@ -1,11 +1,14 @@
-// histories.rs: random histories over plain, recorded, lent and group calls, partly wild.
+// histories.rs: random histories over plain, recorded, lent and group calls, each followed by every call.
 
 use crate::calls::Call;
+use crate::console::LENT_WORDS;
 use crate::generate::number;
 use crate::groups::LARGEST_BASE;
 use crate::maker::{Maker, Way};
 use crate::queue::{pending, Phase, Queue, Ticket};
 use crate::rows::TOP;
+use crate::spoiled;
+use crate::spoiledgroups;
 
 const FIRSTS: [u64; 9] = [0, 0, 0, 1, 7, 1 << 63, TOP - 12, TOP - 3, TOP];
 const DOMAINS: [u64; 6] = [0, 1, 5, 5, TOP - 1, TOP];
@@ -180,6 +183,11 @@ pub fn queue_history(maker: &mut Maker) {
     maker.show();
     maker.list(&committed);
     read_back(maker, [u64::from(iterator), domain, first]);
+    // The log is full now; half of the time it has room again for the calls behind.
+    if maker.random.chance(500) {
+        maker.say(&[135, LENT_WORDS as u64]);
+    }
+    spoiled::every_call(maker);
 }
 
 // An id that is mostly live, and else dead, not yet given or never to be given.
@@ -300,4 +308,5 @@ pub fn group_history(maker: &mut Maker) {
         }
     }
     maker.say(&[143]);
+    spoiledgroups::every_call(maker);
 }

@@ -160,9 +160,16 @@ fn said_and_shown(maker: &mut Maker, line: &[u64]) {
     if !(20..30).contains(&line[0]) {
         maker.show();
     }
-    // A refused call must leave the lent words as well.
-    if (30..40).contains(&line[0]) {
+    // A refused call must leave the lent words as well; many words are shown by the reset.
+    if (30..40).contains(&line[0]) && maker.console.lent < 20 {
         maker.say(&[142]);
+    }
+}
+
+// Every call on the queue as it stands, each on what the one before left.
+pub fn every_call(maker: &mut Maker) {
+    for line in every_line(&maker.console.queue.clone()) {
+        said_and_shown(maker, &line);
     }
 }
 
@@ -199,7 +206,5 @@ pub fn broken_off(maker: &mut Maker) {
         set_all(maker, &[spoil]);
     }
     maker.say(&[135, 10]);
-    for line in every_line(&maker.console.queue.clone()) {
-        said_and_shown(maker, &line);
-    }
+    every_call(maker);
 }

@@ -233,6 +233,13 @@ pub fn piece(maker: &mut Maker, place: usize) {
     }
 }
 
+// Every call on the record as it stands, each on what the one before left.
+pub fn every_call(maker: &mut Maker) {
+    for line in every_line(&maker.console.groups.clone()) {
+        maker.say(&line);
+    }
+}
+
 // A group history that is broken off, spoiled once or twice and met by every call.
 pub fn broken_off(maker: &mut Maker) {
     histories::few_groups(maker);
@@ -245,7 +252,5 @@ pub fn broken_off(maker: &mut Maker) {
             maker.say(line);
         });
     }
-    for line in every_line(&maker.console.groups.clone()) {
-        maker.say(&line);
-    }
+    every_call(maker);
 }
