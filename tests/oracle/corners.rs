@@ -40,7 +40,8 @@ fn reset_of_everything(maker: &mut Maker) {
     maker.say(&[62]);
     maker.steps(Way::Group(1), "rp");
     maker.say(&[110, 1]);
-    for word in [0, 19, 20_479, 20_480, 20_499] {
+    // Words all over the log and all of its last rows.
+    for word in (0..20_470).step_by(97).chain(20_470..20_500) {
         maker.say(&[134, word, TOP]);
     }
     maker.say(&[90, 7, 8]);
