@@ -110,3 +110,21 @@ pub fn end(maker: &mut Maker, seed: u64) {
     maker.console.bad_line(lines + 1, &mut maker.want);
     maker.seen.bad_lines += 1;
 }
+
+// Each bad line behind a recorded call and what it needs, with a call behind it; then three texts' ends.
+pub fn scripts() -> Vec<Vec<u8>> {
+    let whole = |bad: &BadLine| {
+        [b"30,5,0,0,0\r\n", &lead(bad)[..], bad.line.as_bytes(), b"\r\n12,0,0,0,0\r\n"].concat()
+    };
+    let mut all: Vec<Vec<u8>> = ALL.iter().map(whole).collect();
+    let ends: [&[u8]; 6] = [
+        b"",
+        b"\r\n",
+        b"12,0,0,0,0",
+        b"12,0,0,0,0\r",
+        b"12,0,0,0,0\r\n\r\n",
+        b"30,5,0,0,0\r\n12,0,0",
+    ];
+    all.extend(ends.iter().map(|end| end.to_vec()));
+    all
+}

@@ -84,9 +84,10 @@ fn tokens_recorded(maker: &mut Maker) {
 
 fn tokens_of_a_group(maker: &mut Maker) {
     maker.say(&[60, 70]);
-    maker.open_group(false, &[]);
     maker.open_group(true, &[1]);
     fill_and_empty(maker, Way::Group(1));
+    maker.say(&[143]);
+    fill_and_empty(maker, Way::Group(0));
     maker.say(&[143]);
 }
 
@@ -138,17 +139,18 @@ fn last_attempts_of_a_group(maker: &mut Maker) {
         for steps in AT_THE_TOP {
             maker.reset();
             maker.say(&[60, LARGEST_BASE]);
-            maker.open_group(spare % 2 == 0, &[]);
-            maker.set_field(Way::Group(0), 2, 0, TOP - spare);
+            // The root and an iterator in turn.
+            let id = if spare % 2 == 0 { maker.open_group(true, &[]) } else { 0 };
+            maker.set_field(Way::Group(id), 2, 0, TOP - spare);
             for letter in steps.chars() {
-                maker.steps(Way::Group(0), &letter.to_string());
+                maker.steps(Way::Group(id), &letter.to_string());
             }
             for number in [86, 85, 80] {
-                maker.say(&[number, 0]);
+                maker.say(&[number, id]);
             }
             maker.say(&[103]);
             maker.say(&[104]);
-            seen(maker, Way::Group(0));
+            seen(maker, Way::Group(id));
         }
     }
 }
@@ -340,6 +342,7 @@ fn last_ids(maker: &mut Maker) {
 fn largest_bases(maker: &mut Maker) {
     for base in [0, LARGEST_BASE - 1, LARGEST_BASE, LARGEST_BASE + 1, TOP - 1, TOP] {
         maker.say(&[60, base]);
+        maker.say(&[143]);
         maker.say(&[89]);
         let id = maker.open_group(false, &[]);
         maker.say(&[88, id]);

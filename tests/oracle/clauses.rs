@@ -3,42 +3,46 @@
 use crate::groups::{Groups, Place, IDS, LARGEST_BASE};
 use crate::queue::{open_scope, well_formed, Phase, Queue, BINDINGS, SLOTS};
 
-pub const QUEUE_CLAUSES: &[&str] = &[
-    "queue clause alone: more than 64 tokens",
-    "queue clause alone: more than 16 bindings",
-    "queue clause alone: unused slot not 0",
-    "queue clause alone: unused binding not 0",
-    "queue clause alone: ticket of another domain",
-    "queue clause alone: ticket's token not issued",
-    "queue clause alone: ticket's attempt not below next",
-    "queue clause alone: failed with nothing selected",
-    "queue clause alone: issued with nothing selected",
-    "queue clause alone: failed and issued both",
-    "queue clause alone: issued with the slot occupied",
-    "queue clause alone: ready with the slot empty",
-    "queue clause alone: scope with bindings",
-    "queue clause alone: scope Idle, Pending or Stopping",
+pub const OF_QUEUE: [&str; 16] = [
+    "more than 64 tokens",
+    "more than 16 bindings",
+    "unused slot not 0",
+    "unused binding not 0",
+    "ticket of another domain",
+    "ticket's token not issued",
+    "ticket's attempt not below next",
+    "failed with nothing selected",
+    "issued with nothing selected",
+    "failed and issued both",
+    "issued with the slot occupied",
+    "ready with the slot empty",
+    "scope with bindings",
+    "scope Idle",
+    "scope Pending",
+    "scope Stopping",
 ];
 
-pub const GROUP_CLAUSES: &[&str] = &[
-    "group clause alone: base too large",
-    "group clause alone: next above 65,536",
-    "group clause alone: a live id not below next",
-    "group clause alone: two live ids the same",
-    "group clause alone: a live queue not well formed",
-    "group clause alone: a live queue of another domain",
-    "group clause alone: a free place with an id",
-    "group clause alone: a free place with another queue",
-    "group clause alone: sealed with one live",
+// The fifth is told apart by the clause of the queue.
+pub const OF_GROUPS: [&str; 9] = [
+    "base too large",
+    "next above 65,536",
+    "a live id not below next",
+    "two live ids the same",
+    "a live queue not well formed",
+    "a live queue of another domain",
+    "a free place with an id",
+    "a free place with another queue",
+    "sealed with one live",
 ];
+
+const LIVE_QUEUE: usize = 4;
 
 // The places of the clauses that the queue breaks, in the order of their names.
 fn broken_by_queue(queue: &Queue) -> Vec<usize> {
-    let Queue { failed, issued, .. } = *queue;
+    let Queue { failed, issued, iterator, phase, .. } = *queue;
     let ticket = queue.selected;
     let slot = ticket.and_then(|ticket| queue.slots.get(ticket.token as usize));
     let holds = slot.map(|number| *number != 0);
-    let settled = matches!(queue.phase, Phase::Ended | Phase::Closed);
     let broken = [
         queue.tokens > SLOTS,
         queue.bound > BINDINGS,
@@ -49,18 +53,21 @@ fn broken_by_queue(queue: &Queue) -> Vec<usize> {
         ticket.is_some_and(|ticket| ticket.attempt >= queue.next),
         failed && ticket.is_none(),
         issued && ticket.is_none(),
-        failed && issued,
+        failed && issued && ticket.is_some(),
         issued && !failed && holds == Some(true),
         !failed && !issued && holds == Some(false),
-        !queue.iterator && queue.bound != 0,
-        !queue.iterator && !settled,
+        !iterator && queue.bound != 0,
+        !iterator && phase == Phase::Idle,
+        !iterator && phase == Phase::Pending,
+        !iterator && phase == Phase::Stopping,
     ];
     (0..broken.len()).filter(|place| broken[*place]).collect()
 }
 
-pub fn alone_in_queue(queue: &Queue) -> Option<&'static str> {
+// The one clause that the queue breaks, if it breaks one alone.
+pub fn alone_in_queue(queue: &Queue) -> Option<usize> {
     match broken_by_queue(queue)[..] {
-        [only] => Some(QUEUE_CLAUSES[only]),
+        [only] => Some(only),
         _ => None,
     }
 }
@@ -84,11 +91,22 @@ fn broken_by_groups(groups: &Groups) -> Vec<usize> {
     (0..broken.len()).filter(|place| broken[*place]).collect()
 }
 
-pub fn alone_in_groups(groups: &Groups) -> Option<&'static str> {
+pub fn alone_in_groups(groups: &Groups) -> Option<usize> {
     match broken_by_groups(groups)[..] {
-        [only] => Some(GROUP_CLAUSES[only]),
+        [only] => Some(only),
         _ => None,
     }
+}
+
+// The only spoiled live queue, if nothing else is amiss.
+pub fn only_spoiled_queue(groups: &Groups) -> Option<&Queue> {
+    if alone_in_groups(groups) != Some(LIVE_QUEUE) {
+        return None;
+    }
+    let spoiled = |place: &&Place| place.live && !well_formed(&place.queue);
+    let mut spoiled = groups.places.iter().filter(spoiled);
+    let first = spoiled.next()?;
+    spoiled.next().is_none().then_some(&first.queue)
 }
 
 pub fn breaks_something(queue: &Queue) -> bool {

@@ -4,8 +4,7 @@ use crate::calls::{self, one_value, plain_done, yes_or_no, Answer, Call};
 use crate::fields;
 use crate::groups::{self, Groups};
 use crate::questions;
-use crate::queue::{open_iterator, open_scope, well_formed, Queue, Ticket, BINDINGS};
-use crate::readings;
+use crate::queue::{open_iterator, open_scope, well_formed, Queue, Ticket};
 use crate::replay::{self, Verdict};
 use crate::rows::Row;
 use crate::text;
@@ -65,7 +64,7 @@ fn push_line(out: &mut Vec<u8>, values: &[u64]) {
 }
 
 // The call of this kind, from register 0 to cancel 8, with these four numbers.
-fn named<'a>(kind: u64, args: [u64; 4], held_domain: u64, list: &'a [u64]) -> Option<Call<'a>> {
+pub fn named<'a>(kind: u64, args: [u64; 4], held_domain: u64, list: &'a [u64]) -> Option<Call<'a>> {
     let [a, b, c, d] = args;
     let ticket = Ticket { domain: held_domain, token: a, attempt: b };
     Some(match kind {
@@ -167,9 +166,6 @@ impl Console {
     fn read(&mut self, line: &Row) -> Said {
         let [_, kind, domain, first, _] = *line;
         let (number, start) = match kind {
-            0 if readings::SCOPE_READER_CHECKS_LIST && self.list.len() > BINDINGS => {
-                (14, open_scope(0, 0))
-            }
             0 => (0, open_scope(domain, first)),
             1 => open_iterator(domain, first, &self.list),
             _ => return Said::Bad,
@@ -241,7 +237,7 @@ impl Console {
             101 => outcome(groups::has_issued(groups).map(yes_or_no)),
             102 => outcome(groups::has_failed(groups).map(yes_or_no)),
             103 => outcome(groups::can_retry_all(groups).map(yes_or_no)),
-            104 => outcome(groups::retry_all(groups).map(|()| plain_done())),
+            104 => outcome(groups::retry_all(groups).map(yes_or_no)),
             105 => outcome(groups::can_finish(groups, &self.list).map(yes_or_no)),
             106 => outcome(groups::can_seal(groups).map(yes_or_no)),
             107 => outcome(groups::contains(groups, id).map(yes_or_no)),
@@ -259,12 +255,7 @@ impl Console {
                 self.seen = *queue;
                 answered(plain_done())
             }
-            Err(number) => {
-                if readings::REFUSED_GET_BLANKS_SEEN {
-                    self.seen = open_scope(0, 0);
-                }
-                refused(number, 0)
-            }
+            Err(number) => refused(number, 0),
         }
     }
 
@@ -320,9 +311,6 @@ impl Console {
 // The whole output of a script; a bad line ends the run.
 pub fn output(script: &[u8]) -> Vec<u8> {
     let mut out = Vec::new();
-    if script.is_empty() && !readings::EMPTY_SCRIPT_IS_BAD {
-        return out;
-    }
     let mut console = Console::new();
     for (place, line) in text::lines(script).iter().enumerate() {
         let said = text::columns(line).map(|row| console.answer(&row, &mut out));

@@ -1,9 +1,11 @@
 // coverage.rs: what document 01 lets each call answer, written down, and how often each was seen.
 
-use crate::clauses;
 use crate::console::{Console, Said};
+use crate::limitsmet;
 use crate::rows::Row;
 use crate::situations;
+use crate::spoilage::Spoilage;
+use crate::unseen::{self, Records};
 use std::collections::BTreeMap;
 
 // A call's number, its name, the refusals that it can give and the cases of its answers.
@@ -88,14 +90,14 @@ pub const LIST: &[Can] = &[
     can(101, "has_issued", &[1], &[1, 2]),
     can(102, "has_failed of all", &[1], &[1, 2]),
     can(103, "can_retry_all", &[1], &[1, 2]),
-    can(104, "retry_all", &[1, 8], &[1]),
+    can(104, "retry_all", &[1], &[1, 2]),
     can(105, "can_finish of all", &[1], &[1, 2]),
     can(106, "can_seal", &[1], &[1, 2]),
     can(107, "contains", &[1], &[1, 2]),
     can(108, "len", &[1], &[1]),
     can(109, "is_empty of all", &[1], &[1, 2]),
     can(110, "get", &[1, 10], &[1]),
-    can(111, "accepts_acquisition", &[1], &[1, 2]),
+    can(111, "accepts_acquisition", &[1, 10], &[1, 2]),
     can(112, "may a group be opened", &[1], &[1, 2]),
     can(120, "set list empty", &[], &[1]),
     can(121, "set list longer", &[], &[1]),
@@ -109,10 +111,11 @@ pub const LIST: &[Can] = &[
     can(150, "set all back", &[], &[1]),
 ];
 
+const SHOWS: [&str; 4] = ["show queue", "show seen", "show log", "show groups"];
+
 pub fn name_of(number: u64) -> &'static str {
-    let shows = ["show queue", "show seen", "show log", "show groups"];
     let listed = LIST.iter().find(|can| can.number == number).map(|can| can.name);
-    let show = number.checked_sub(140).and_then(|place| shows.get(place as usize).copied());
+    let show = number.checked_sub(140).and_then(|place| SHOWS.get(place as usize).copied());
     listed.or(show).unwrap_or("no call")
 }
 
@@ -120,23 +123,50 @@ pub struct Seen {
     watched: bool,
     answers: BTreeMap<(u64, u64, u64), u64>,
     named: BTreeMap<&'static str, u64>,
-    shows: BTreeMap<u64, u64>,
+    shows: [u64; 4],
+    spoilage: Spoilage,
+    unseen: Records,
     pub bad_lines: u64,
+    // Records written over before they were shown, and pieces that were left out: there must be none.
+    pub lost: u64,
+    pub left_out: u64,
 }
+
+// Rows of the table, each with how many of its cases were never seen.
+type Rows = Vec<(String, usize)>;
 
 impl Seen {
     pub fn new(watched: bool) -> Seen {
-        let (answers, named, shows) = (BTreeMap::new(), BTreeMap::new(), BTreeMap::new());
-        Seen { watched, answers, named, shows, bad_lines: 0 }
+        Seen {
+            watched,
+            answers: BTreeMap::new(),
+            named: BTreeMap::new(),
+            shows: [0; 4],
+            spoilage: Spoilage::default(),
+            unseen: [false; 4],
+            bad_lines: 0,
+            lost: 0,
+            left_out: 0,
+        }
+    }
+
+    // A script begins with everything new, so that nothing is left to be shown.
+    pub fn begin(&mut self) {
+        self.unseen = [false; 4];
     }
 
     // Looks at the state that the call meets.
     pub fn before(&mut self, console: &Console, line: &Row) {
-        if self.watched {
-            for name in situations::met(console, line) {
-                *self.named.entry(name).or_default() += 1;
-            }
+        if !self.watched {
+            return;
         }
+        for name in situations::met(console, line) {
+            *self.named.entry(name).or_default() += 1;
+        }
+        self.spoilage.before(console, line[0]);
+        let lost = unseen::lost(self.unseen, line[0]);
+        self.lost += lost.iter().filter(|lost| **lost).count() as u64;
+        self.unseen = unseen::after(self.unseen, line[0]);
     }
 
     pub fn after(&mut self, line: &Row, said: &Said) {
@@ -144,7 +174,7 @@ impl Seen {
             Said::Result(result, answer) => {
                 *self.answers.entry((line[0], *result, answer.case)).or_default() += 1;
             }
-            Said::Shown(_) => *self.shows.entry(line[0]).or_default() += 1,
+            Said::Shown(_) => self.shows[(line[0] - 140) as usize] += 1,
             Said::Bad => self.bad_lines += 1,
         }
     }
@@ -155,19 +185,45 @@ impl Seen {
 
     // One line of the table, and how many of its cases were never seen.
     fn row(&self, can: &Can) -> (String, usize) {
-        let refusals =
-            can.refusals.iter().map(|no| (format!("refused {no}"), self.count(can.number, *no, 0)));
-        let cases =
-            can.cases.iter().map(|case| (format!("case {case}"), self.count(can.number, 0, *case)));
-        let cells: Vec<(String, u64)> = cases.chain(refusals).collect();
-        let never = cells.iter().filter(|(_, count)| *count == 0).count();
-        let told: Vec<String> =
-            cells.iter().map(|(what, count)| format!("{what}: {count}")).collect();
-        (format!("{:>4} {:<30} {}", can.number, can.name, told.join(", ")), never)
+        let refusals = can.refusals.iter().map(|no| (*no, self.count(can.number, *no, 0)));
+        let cases = can.cases.iter().map(|case| (*case, self.count(can.number, 0, *case)));
+        let (cases, refusals): (Vec<_>, Vec<_>) = (cases.collect(), refusals.collect());
+        let never = cases.iter().chain(&refusals).filter(|(_, count)| *count == 0).count();
+        let told = |cells: &[(u64, u64)]| {
+            let cells: Vec<String> =
+                cells.iter().map(|(no, count)| format!("{no}: {count}")).collect();
+            cells.join(", ")
+        };
+        let (cases, refusals) = (told(&cases), told(&refusals));
+        (format!("| {} | {} | {cases} | {refusals} |", can.number, can.name), never)
     }
 
-    // Answers that the list holds impossible; there must be none.
-    fn unlisted(&self) -> Vec<String> {
+    pub fn answer_rows(&self) -> Rows {
+        LIST.iter().map(|can| self.row(can)).collect()
+    }
+
+    pub fn show_rows(&self) -> Rows {
+        let row = |place: usize| {
+            let count = self.shows[place];
+            (format!("| {} | {} | {count} |", 140 + place, SHOWS[place]), usize::from(count == 0))
+        };
+        (0..4).map(row).collect()
+    }
+
+    pub fn named_rows(&self) -> Rows {
+        let row = |name: &&'static str| {
+            let count = self.named.get(name).copied().unwrap_or(0);
+            (format!("| {name} | {count} |"), usize::from(count == 0))
+        };
+        situations::NAMES.iter().chain(limitsmet::NAMES).map(row).collect()
+    }
+
+    pub fn spoilage_rows(&self) -> Rows {
+        self.spoilage.rows()
+    }
+
+    // Answers and situations that the lists hold impossible; there must be none.
+    pub fn unlisted(&self) -> Vec<String> {
         let listed = |number: u64, result: u64, case: u64| {
             let can = LIST.iter().find(|can| can.number == number);
             can.is_some_and(|can| match result {
@@ -177,38 +233,12 @@ impl Seen {
         };
         let strange =
             self.answers.keys().filter(|(call, result, case)| !listed(*call, *result, *case));
-        strange
-            .map(|(call, result, case)| format!("{call}: result {result}, case {case}"))
-            .collect()
-    }
-
-    fn named_row(&self, name: &'static str) -> (String, usize) {
-        let count = self.named.get(name).copied().unwrap_or(0);
-        (format!("     {name:<66} {count}"), usize::from(count == 0))
-    }
-
-    // The table, or Err with it if a listed case was never seen or an unlisted one was.
-    pub fn table(&self) -> Result<String, String> {
-        let names =
-            situations::NAMES.iter().chain(clauses::QUEUE_CLAUSES).chain(clauses::GROUP_CLAUSES);
-        let mut rows: Vec<(String, usize)> = LIST.iter().map(|can| self.row(can)).collect();
-        for (number, count) in &self.shows {
-            rows.push((format!("{number:>4} {:<30} {count}", name_of(*number)), 0));
-        }
-        rows.push((
-            format!("     bad lines: {}", self.bad_lines),
-            usize::from(self.bad_lines == 0),
-        ));
-        rows.extend(names.map(|name| self.named_row(name)));
-        let never: usize = rows.iter().map(|(_, never)| never).sum();
-        let told: Vec<String> = rows.into_iter().map(|(told, _)| told).collect();
-        let unlisted = self.unlisted();
-        let end = format!("\nnever seen: {never}; seen though not listed: {}", unlisted.len());
-        let table = told.join("\n") + &end;
-        if never == 0 && unlisted.is_empty() {
-            Ok(table)
-        } else {
-            Err(format!("{table}\n{}", unlisted.join("\n")))
-        }
+        let told =
+            strange.map(|(call, result, case)| format!("{call}: result {result}, case {case}"));
+        let known = |name: &&'static str| {
+            situations::NAMES.contains(name) || limitsmet::NAMES.contains(name)
+        };
+        let named = self.named.keys().filter(|name| !known(name)).map(|name| name.to_string());
+        told.chain(named).collect()
     }
 }

@@ -79,12 +79,21 @@ const LOGS: [(u64, u64); 17] = [
     (20_480, 3_689_348_814_741_910_324),
 ];
 
+// A scope among groups is the root, an iterator the group behind it.
+fn group_of(state: &State) -> Way {
+    Way::Group(u64::from(state.0))
+}
+
 pub fn build(maker: &mut Maker, state: &State, way: Way) {
     let (iterator, first, steps) = *state;
     match way {
-        Way::Group(id) => {
-            maker.open_group(iterator, &COMMITTED);
-            maker.set_field(Way::Group(id), 2, 0, first);
+        Way::Group(_) => {
+            if iterator {
+                maker.open_group(true, &COMMITTED);
+            }
+            if first != 0 {
+                maker.set_field(way, 2, 0, first);
+            }
         }
         _ => maker.open(iterator, DOMAIN, first, &COMMITTED),
     }
@@ -153,16 +162,15 @@ fn every_variant(maker: &mut Maker, state: &State, way: Way, log: (u64, u64)) {
             continue;
         }
         maker.call(way, &call);
-        shown_after(maker, way);
+        shown_after(maker, way, maker.queue(way) != start);
     }
 }
 
-fn shown_after(maker: &mut Maker, way: Way) {
+fn shown_after(maker: &mut Maker, way: Way, changed: bool) {
     if let Way::Group(id) = way {
-        maker.say(&[110, id]);
-        maker.say(&[141]);
-        if maker.random.chance(60) {
-            maker.say(&[143]);
+        if changed || maker.random.chance(250) {
+            maker.say(&[110, id]);
+            maker.say(&[141]);
         }
         return;
     }
@@ -192,16 +200,17 @@ pub fn count() -> usize {
     STATES.len()
 }
 
-// All calls in the state of this place; four logs always, one more by chance.
+// All calls in the state of this place; four logs always, and the others in turn.
 pub fn piece(maker: &mut Maker, place: usize) {
     let state = &STATES[place];
+    let group = group_of(state);
     every_variant(maker, state, Way::Plain, LOGS[0]);
     every_variant(maker, state, Way::Lent, LOGS[0]);
-    every_variant(maker, state, Way::Group(0), LOGS[0]);
-    let extra = maker.random.pick(&LOGS[4..]);
+    every_variant(maker, state, group, LOGS[0]);
+    let extra = LOGS[4 + place % (LOGS.len() - 4)];
     for log in LOGS[..4].iter().chain([&extra]) {
         every_variant(maker, state, Way::Recorded, *log);
     }
     every_question(maker, state, Way::Plain);
-    every_question(maker, state, Way::Group(0));
+    every_question(maker, state, group);
 }

@@ -69,11 +69,24 @@ const RECIPES: [Recipe; 46] = [
     Recipe { groups: &[], closed: &[], sealed: true, next: None },
 ];
 
-fn build(maker: &mut Maker, recipe: &Recipe, base: u64) {
+// A record begins with its root; one whose id 0 is no scope grows from a refused opening.
+fn begin(maker: &mut Maker, recipe: &Recipe, base: u64) -> usize {
     maker.reset();
-    maker.say(&[60, base]);
-    for (iterator, first, steps) in recipe.groups {
-        let id = maker.open_group(*iterator, &COMMITTED);
+    if matches!(recipe.groups.first(), Some((false, ..))) {
+        maker.say(&[60, base]);
+        return 1;
+    }
+    maker.say(&[60, TOP]);
+    if base != 0 {
+        maker.say(&[131, 0, base]);
+    }
+    0
+}
+
+fn build(maker: &mut Maker, recipe: &Recipe, base: u64) {
+    let begun = begin(maker, recipe, base);
+    for (place, (iterator, first, steps)) in recipe.groups.iter().enumerate() {
+        let id = if place < begun { 0 } else { maker.open_group(*iterator, &COMMITTED) };
         if *first != 0 {
             maker.set_field(Way::Group(id), 2, 0, *first);
         }

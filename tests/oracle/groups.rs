@@ -2,7 +2,6 @@
 
 use crate::questions::{cancelled, drained, finishable, retry_allowed};
 use crate::queue::{open_iterator, open_scope, pending, retry, well_formed, Queue};
-use crate::readings;
 
 pub const PLACES: usize = 16;
 pub const LARGEST_BASE: u64 = 18_446_744_073_709_486_079;
@@ -37,10 +36,8 @@ pub fn new(base: u64) -> (u64, Groups) {
         return (19, empty_record(0));
     }
     let mut groups = empty_record(base);
-    if readings::NEW_OPENS_ROOT {
-        groups.places[0] = Place { id: 0, live: true, queue: open_scope(base, 0) };
-        groups.next = 1;
-    }
+    groups.places[0] = Place { id: 0, live: true, queue: open_scope(base, 0) };
+    groups.next = 1;
     (0, groups)
 }
 
@@ -178,14 +175,15 @@ pub fn can_retry_all(groups: &Groups) -> Result<bool, u64> {
     Ok(has_failed(groups)? && !stuck)
 }
 
-pub fn retry_all(groups: &mut Groups) -> Result<(), u64> {
+// All that failed or none: whether it was done.
+pub fn retry_all(groups: &mut Groups) -> Result<bool, u64> {
     if !can_retry_all(groups)? {
-        return if readings::RETRY_ALL_REFUSES { Err(8) } else { Ok(()) };
+        return Ok(false);
     }
     for place in groups.places.iter_mut().filter(|place| place.live && place.queue.failed) {
         place.queue = retry(&place.queue)?.0;
     }
-    Ok(())
+    Ok(true)
 }
 
 // Of id 0 only that it is neither pending nor failed; of the others also the queue's own can_finish.
@@ -199,26 +197,16 @@ pub fn can_finish(groups: &Groups, target: &[u64]) -> Result<bool, u64> {
 }
 
 pub fn can_seal(groups: &Groups) -> Result<bool, u64> {
-    let undrained = any(groups, |queue| !drained(queue))?;
-    Ok(!undrained && (!groups.sealed || readings::SEALED_CAN_SEAL))
-}
-
-// The calls that look at membership alone; upstream asks no well-formed record of them.
-fn simply_checked(groups: &Groups) -> Result<(), u64> {
-    if readings::SIMPLE_CALLS_CHECK_RECORD {
-        checked(groups)
-    } else {
-        Ok(())
-    }
+    any(groups, |queue| !drained(queue)).map(|undrained| !undrained)
 }
 
 pub fn contains(groups: &Groups, id: u64) -> Result<bool, u64> {
-    simply_checked(groups)?;
+    checked(groups)?;
     Ok(live(groups).any(|place| place.id == id))
 }
 
 pub fn len(groups: &Groups) -> Result<u64, u64> {
-    simply_checked(groups)?;
+    checked(groups)?;
     Ok(live(groups).count() as u64)
 }
 
@@ -227,16 +215,11 @@ pub fn is_empty(groups: &Groups) -> Result<bool, u64> {
 }
 
 pub fn accepts_acquisition(groups: &Groups, id: u64) -> Result<bool, u64> {
-    simply_checked(groups)?;
-    match live(groups).find(|place| place.id == id) {
-        Some(place) => Ok(!cancelled(place.queue.phase)),
-        None if readings::UNKNOWN_ACQUISITION_IS_NO => Ok(false),
-        None => Err(10),
-    }
+    get(groups, id).map(|queue| !cancelled(queue.phase))
 }
 
 pub fn may_open(groups: &Groups) -> Result<bool, u64> {
-    simply_checked(groups)?;
-    let room = !readings::MAY_OPEN_COUNTS_PLACES || live(groups).count() < PLACES;
+    checked(groups)?;
+    let room = live(groups).count() < PLACES;
     Ok(!groups.sealed && room && groups.next < IDS)
 }

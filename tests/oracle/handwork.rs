@@ -125,33 +125,37 @@ const MARKED: &[Case] = &[
 
 const GROUPS: &[Case] = &[
     (
-        "ids and domains go on in opening order",
+        "ids and domains go on in opening order, the root first",
         &[
             ("60,100", DONE),
-            ("109", YES),
-            ("61", DONE),
-            ("62", "0,1,1,0,0,0,0"),
+            ("109", NO),
+            ("108", "0,1,1,0,0,0,0"),
+            ("61", "0,1,1,0,0,0,0"),
+            ("62", "0,1,2,0,0,0,0"),
             ("88", "0,1,100,0,0,0,0"),
             ("88,1", "0,1,101,0,0,0,0"),
-            ("88,2", "10,0,0,0,0,0,0"),
-            ("108", "0,1,2,0,0,0,0"),
+            ("88,2", "0,1,102,0,0,0,0"),
+            ("88,3", "10,0,0,0,0,0,0"),
+            ("108", "0,1,3,0,0,0,0"),
             ("63", DONE),
             ("63", "10,0,0,0,0,0,0"),
-            ("61", "0,1,2,0,0,0,0"),
-            ("88,2", "0,1,102,0,0,0,0"),
+            ("61", "0,1,3,0,0,0,0"),
+            ("88,3", "0,1,103,0,0,0,0"),
             ("107", NO),
-            ("107,2", YES),
+            ("107,3", YES),
         ],
     ),
     (
         "the largest base and one more",
         &[
             ("60,18446744073709486080", "19,0,0,0,0,0,0"),
+            ("109", YES),
             ("61", DONE),
             ("88", DONE),
             ("60,18446744073709486079", DONE),
-            ("61", DONE),
             ("88", "0,1,18446744073709486079,0,0,0,0"),
+            ("61", "0,1,1,0,0,0,0"),
+            ("88,1", "0,1,18446744073709486080,0,0,0,0"),
         ],
     ),
     (
@@ -175,25 +179,25 @@ const GROUPS: &[Case] = &[
     (
         "close needs it drained: empty and settled",
         &[
-            ("62", DONE),
-            ("63", "13,0,0,0,0,0,0"),
-            ("75", YES),
-            ("63", "13,0,0,0,0,0,0"),
-            ("77", YES),
-            ("70,0,5", DONE),
-            ("63", "13,0,0,0,0,0,0"),
-            ("72", "0,2,0,0,0,5,0"),
-            ("63", "13,0,0,0,0,0,0"),
-            ("73,0,0,0,1", DONE),
-            ("63", "13,0,0,0,0,0,0"),
+            ("62", "0,1,1,0,0,0,0"),
+            ("63,1", "13,0,0,0,0,0,0"),
+            ("75,1", YES),
+            ("63,1", "13,0,0,0,0,0,0"),
+            ("77,1", YES),
+            ("70,1,5", DONE),
+            ("63,1", "13,0,0,0,0,0,0"),
+            ("72,1", "0,2,1,0,0,5,0"),
+            ("63,1", "13,0,0,0,0,0,0"),
+            ("90,1", DONE),
+            ("73,1,0,0,1", DONE),
+            ("63,1", "13,0,0,0,0,0,0"),
             ("106", NO),
-            ("74", "8,0,0,0,0,0,0"),
+            ("74,1", "8,0,0,0,0,0,0"),
         ],
     ),
     (
         "seal, and what is refused after it",
         &[
-            ("61", DONE),
             ("62", "0,1,1,0,0,0,0"),
             ("106", NO),
             ("64", "13,0,0,0,0,0,0"),
@@ -207,15 +211,16 @@ const GROUPS: &[Case] = &[
             ("63,0", "10,0,0,0,0,0,0"),
             ("112", NO),
             ("109", YES),
+            ("106", YES),
             ("132,0,1,1", DONE),
             ("89", NO),
         ],
     ),
+    ("a reset has the root again", &[("64", DONE), ("150", DONE), ("108", "0,1,1,0,0,0,0")]),
     (
         "a group's own steps, and its neighbour stays",
         &[
             ("60,40", DONE),
-            ("61", DONE),
             ("61", "0,1,1,0,0,0,0"),
             ("70,1,71", DONE),
             ("70,1,72", "0,1,1,0,0,0,0"),
@@ -235,36 +240,38 @@ const GROUPS: &[Case] = &[
         ],
     ),
     (
-        "retry_all renews every failed one or none",
+        "retry_all renews every failed one, or says no and changes nothing",
         &[
-            ("104", "8,0,0,0,0,0,0"),
-            ("61", DONE),
+            ("104", NO),
             ("61", "0,1,1,0,0,0,0"),
             ("70,0,5", DONE),
             ("70,1,6", DONE),
             ("72", "0,2,0,0,0,5,0"),
             ("72,1", "0,2,1,0,0,6,0"),
-            ("104", "8,0,0,0,0,0,0"),
+            ("104", NO),
             ("90,0,5", DONE),
             ("73,0,0,0,1", DONE),
             ("103", YES),
             ("90,1,0", DONE),
             ("73,1,0,0,1", DONE),
             ("103", NO),
-            ("104", "8,0,0,0,0,0,0"),
+            ("104", NO),
             ("72", DONE),
+            ("85", YES),
             ("133,1,3,0,6", DONE),
             ("103", YES),
-            ("104", DONE),
+            ("104", YES),
             ("102", NO),
+            ("104", NO),
             ("72", "0,2,0,0,1,5,0"),
             ("72,1", "0,2,1,0,1,6,0"),
+            ("132,9,0,1", DONE),
+            ("104", "1,0,0,0,0,0,0"),
         ],
     ),
     (
         "can_finish asks of id 0 only that it is neither pending nor failed",
         &[
-            ("61", DONE),
             ("121,4", DONE),
             ("121,9", DONE),
             ("62", "0,1,1,0,0,0,0"),
@@ -288,8 +295,9 @@ const GROUPS: &[Case] = &[
         ],
     ),
     (
-        "can_finish: a root that is an iterator, pending and not",
+        "can_finish: id 0 an iterator, which only an empty record can open, pending and not",
         &[
+            ("60,18446744073709551615", "19,0,0,0,0,0,0"),
             ("62", DONE),
             ("121,3", DONE),
             ("105", YES),
@@ -306,23 +314,23 @@ const GROUPS: &[Case] = &[
         "has_issued and accepts_acquisition",
         &[
             ("101", NO),
-            ("62", DONE),
             ("111", YES),
-            ("111,1", NO),
-            ("70,0,5", DONE),
-            ("72", "0,2,0,0,0,5,0"),
+            ("62", "0,1,1,0,0,0,0"),
+            ("111,1", YES),
+            ("111,2", "10,0,0,0,0,0,0"),
+            ("70,1,5", DONE),
+            ("72,1", "0,2,1,0,0,5,0"),
             ("101", YES),
-            ("75", YES),
-            ("78", DONE),
-            ("111", NO),
-            ("71,0,8", "0,1,1,0,0,0,0"),
-            ("71,0,8", "4,0,8,0,0,0,0"),
+            ("75,1", YES),
+            ("78,1", DONE),
+            ("111,1", NO),
+            ("71,1,8", "0,1,1,0,0,0,0"),
+            ("71,1,8", "4,0,8,0,0,0,0"),
         ],
     ),
     (
         "a free place must be blank, and 1 comes before all",
         &[
-            ("61", DONE),
             ("89", YES),
             ("132,5,0,1", DONE),
             ("89", NO),
@@ -344,7 +352,6 @@ const GROUPS: &[Case] = &[
     (
         "two live ids the same",
         &[
-            ("61", DONE),
             ("61", "0,1,1,0,0,0,0"),
             ("132,1,0,0", DONE),
             ("133,1,1,0,0", DONE),
@@ -381,9 +388,9 @@ fn twelfth() -> bool {
     ends_with(&full, &["0,1,62,0,0,0,0", "0,1,63,0,0,0,0", "3,0,7,0,0,0,0"])
 }
 
-// Sixteen live; the orders 14 before 11, 11 before 19; a freed place takes the next id.
+// Sixteen live with the root; the orders 14 before 11, 11 before 19; a freed place takes the next id.
 fn seventeenth_group() -> bool {
-    let sixteen = whole("61").repeat(16);
+    let sixteen = whole("61").repeat(15);
     let full = sixteen.clone() + &whole("61") + &whole("131,1,65536") + &whole("61");
     let long_list = sixteen.clone() + &whole("121,1").repeat(17) + &whole("62");
     let freed = sixteen + &whole("63,3") + &whole("61") + &whole("132,3,0,16") + &whole("89");
@@ -402,22 +409,27 @@ fn blank_line() -> String {
     format!("{}2,{}", "0,".repeat(74), ["0"; 17].join(","))
 }
 
-// A queue of one popped token in the iterator's first group, as get shows it.
+// A queue of one popped token in the first group behind the root, as get shows it.
 fn got_queue() -> bool {
-    let script = ["60,40", "121,4", "62", "70,0,77", "72", "110", "141", "110,9", "141"];
+    let script = ["60,40", "121,4", "62", "70,1,77", "72,1", "110,1", "141", "110,9", "141"];
     let script: String = script.iter().map(|line| whole(line)).collect();
     let slots = "0,".repeat(64);
-    let line = format!("1,40,1,{slots}1,1,40,0,0,0,1,0,4,{}1", "0,".repeat(15));
+    let line = format!("1,41,1,{slots}1,1,41,0,0,0,1,0,4,{}1", "0,".repeat(15));
     ends_with(&script, &[DONE, &line, "10,0,0,0,0,0,0", &line])
 }
 
+// At the start the root is live in place 0; a refused new record has no live group.
 fn shows() -> bool {
     let script = whole("140") + &whole("141") + &whole("143") + &whole("135,3") + &whole("142");
     let blank = blank_line();
-    let place = format!("0,0,{blank}\r\n");
-    let want =
-        format!("{blank}\r\n{blank}\r\n0,0,0\r\n{}{DONE}\r\n3,0,0,0,0\r\n", place.repeat(16));
-    blank.split(',').count() == 92 && console::output(script.as_bytes()) == want.as_bytes()
+    let free = format!("0,0,{blank}\r\n");
+    let start = format!("0,1,0\r\n0,1,{blank}\r\n{}", free.repeat(15));
+    let want = format!("{blank}\r\n{blank}\r\n{start}{DONE}\r\n3,0,0,0,0\r\n");
+    let refused = whole("60,18446744073709486080") + &whole("143");
+    let empty = format!("19,0,0,0,0,0,0\r\n0,0,0\r\n{}", free.repeat(16));
+    blank.split(',').count() == 92
+        && console::output(script.as_bytes()) == want.as_bytes()
+        && console::output(refused.as_bytes()) == empty.as_bytes()
 }
 
 // The bad line is answered with its number and the used count; the call behind it is not run.
@@ -460,12 +472,29 @@ fn odd_ends() -> bool {
         && console::output(b"") == b"18,0,1,0,0,0,0\r\n"
 }
 
+// All cases as one script with the answers as they stand here, parted by resets and ended by a bad line.
+pub fn one_script() -> (Vec<u8>, Vec<u8>) {
+    let (mut script, mut want) = (String::new(), String::new());
+    for (line, answer) in
+        MARKED.iter().chain(GROUPS).flat_map(|case| case.1.iter().chain(&[("150", DONE)]))
+    {
+        script += &whole(line);
+        want += &format!("{answer}\r\n");
+    }
+    let lines = script.lines().count();
+    script += &whole("200");
+    want += &format!("18,0,{},0,0,0,0\r\n", lines + 1);
+    (script.into_bytes(), want.into_bytes())
+}
+
 // Every check with its name.
 pub fn all() -> Vec<(String, bool)> {
     let mut checks: Vec<(String, bool)> = Vec::new();
     for case in MARKED.iter().chain(GROUPS) {
         checks.push((format!("console: {}", case.0), case_right(case)));
     }
+    let (script, want) = one_script();
+    checks.push(("console: all cases as one script".to_string(), console::output(&script) == want));
     checks.push(("console: W12".to_string(), twelfth()));
     checks.push(("console: the 17th group".to_string(), seventeenth_group()));
     checks.push(("console: 12 before 14".to_string(), sealed_before_bindings()));

@@ -1,18 +1,23 @@
-// histories.rs: random histories over plain, recorded, lent and group calls, partly wild.
+// histories.rs: random histories over plain, recorded, lent and group calls, each followed by every call.
 
 use crate::calls::Call;
+use crate::console::LENT_WORDS;
 use crate::generate::number;
 use crate::groups::LARGEST_BASE;
 use crate::maker::{Maker, Way};
 use crate::queue::{pending, Phase, Queue, Ticket};
 use crate::rows::TOP;
+use crate::spoiled;
+use crate::spoiledgroups;
 
 const FIRSTS: [u64; 9] = [0, 0, 0, 1, 7, 1 << 63, TOP - 12, TOP - 3, TOP];
 const DOMAINS: [u64; 6] = [0, 1, 5, 5, TOP - 1, TOP];
 
-// Few different members, so that targets often fit and often nearly fit.
+// Few different members, so that targets often fit and often nearly fit; seldom as many as may be.
 fn bindings(maker: &mut Maker, most: usize) -> Vec<u64> {
-    let count = maker.random.between(0, most);
+    let many = maker.random.chance(40);
+    let count =
+        if many { maker.random.pick(&[15, 16, 17, 64]) } else { maker.random.between(0, most) };
     (0..count).map(|_| maker.random.pick(&[0, 1, 4, 9, 9, TOP])).collect()
 }
 
@@ -79,7 +84,7 @@ fn staged(maker: &mut Maker, way: Way, queue: &Queue) {
 }
 
 // A call that mostly fits the state, and now and then doesn't.
-fn one_call(maker: &mut Maker, way: Way) {
+pub fn one_call(maker: &mut Maker, way: Way) {
     let queue = maker.queue(way);
     let undo = number(&mut maker.random);
     match maker.random.below(100) {
@@ -162,8 +167,10 @@ pub fn queue_history(maker: &mut Maker) {
     maker.open(iterator, domain, first, &committed);
     for _ in 0..maker.random.between(10, 160) {
         let way = pick_way(maker, leaning);
+        let before = maker.console.queue;
         one_call(maker, way);
-        if maker.random.chance(330) {
+        let often = if maker.console.queue == before { 200 } else { 700 };
+        if maker.random.chance(often) {
             maker.show();
         }
         if maker.random.chance(120) {
@@ -176,6 +183,11 @@ pub fn queue_history(maker: &mut Maker) {
     maker.show();
     maker.list(&committed);
     read_back(maker, [u64::from(iterator), domain, first]);
+    // The log is full now; half of the time it has room again for the calls behind.
+    if maker.random.chance(500) {
+        maker.say(&[135, LENT_WORDS as u64]);
+    }
+    spoiled::every_call(maker);
 }
 
 // An id that is mostly live, and else dead, not yet given or never to be given.
@@ -254,7 +266,7 @@ fn group_turn(maker: &mut Maker) {
         38..=40 => drain(maker, id),
         _ => {
             one_call(maker, Way::Group(id));
-            if maker.random.chance(200) {
+            if maker.random.chance(300) {
                 maker.say(&[110, id]);
                 maker.say(&[141]);
             }
@@ -262,17 +274,33 @@ fn group_turn(maker: &mut Maker) {
     }
 }
 
-pub fn group_history(maker: &mut Maker) {
+fn some_groups(maker: &mut Maker) {
     maker.reset();
     let bases = [0, 0, 1, 700, 1 << 63, LARGEST_BASE - 1, LARGEST_BASE];
     let base = maker.random.pick(&bases);
     maker.say(&[60, base]);
+    // A refused one is empty, and only there can id 0 be an iterator.
+    if maker.random.chance(150) {
+        maker.say(&[60, LARGEST_BASE + 1]);
+    }
     for _ in 0..maker.random.between(1, 3) {
         open_or_close(maker);
     }
+}
+
+// A short one, for what comes behind it.
+pub fn few_groups(maker: &mut Maker) {
+    some_groups(maker);
+    for _ in 0..maker.random.between(2, 20) {
+        group_turn(maker);
+    }
+}
+
+pub fn group_history(maker: &mut Maker) {
+    some_groups(maker);
     for _ in 0..maker.random.between(10, 120) {
         group_turn(maker);
-        if maker.random.chance(22) {
+        if maker.random.chance(60) {
             maker.say(&[143]);
         }
         if maker.console.groups.sealed && maker.random.chance(80) {
@@ -280,4 +308,5 @@ pub fn group_history(maker: &mut Maker) {
         }
     }
     maker.say(&[143]);
+    spoiledgroups::every_call(maker);
 }

@@ -6,6 +6,7 @@ mod bounds;
 mod calls;
 mod clauses;
 mod console;
+mod corners;
 mod coverage;
 mod damage;
 mod differ;
@@ -20,6 +21,7 @@ mod handwork;
 mod histories;
 mod language;
 mod limits;
+mod limitsmet;
 mod logs;
 mod maker;
 mod questions;
@@ -32,8 +34,12 @@ mod scripts;
 mod selftest;
 mod shrink;
 mod situations;
+mod spoilage;
 mod spoiled;
+mod spoiledgroups;
+mod table;
 mod text;
+mod unseen;
 
 use random::Random;
 use std::collections::BTreeMap;
@@ -47,7 +53,9 @@ oracle answers TEXTS GOT
 oracle compare TEXTS WANT GOT
 oracle selftest
 oracle console < SCRIPT
-oracle script SEED CALLS SCRIPT WANT
+oracle scripts SEED CALLS FOLDER
+oracle badlines FOLDER
+oracle handwork SCRIPT WANT
 oracle differ SCRIPT WANT GOT
 oracle coverage SEED CALLS
 oracle shrink SCRIPT PROGRAM ARGS..";
@@ -188,13 +196,29 @@ fn console() -> Outcome {
     std::io::stdout().write_all(&out).map_err(|error| error.to_string())
 }
 
-fn script(seed: u64, calls: u64, to: &str, want: &str) -> Outcome {
-    let made = scripts::made(seed, calls, false);
-    to_file(to, &made.script)?;
-    to_file(want, &made.want)?;
-    let lines = made.script.iter().filter(|byte| **byte == b'\n').count() + 1;
-    eprintln!("{} calls, {lines} lines, {} bytes of output", made.calls, made.want.len());
+// Each part as script.1 and want.1, and so on.
+fn scripts(seed: u64, calls: u64, folder: &str) -> Outcome {
+    for part in 0..scripts::PARTS {
+        let made = scripts::part(seed, calls, part, coverage::Seen::new(false));
+        to_file(&format!("{folder}/script.{}", part + 1), &made.script)?;
+        to_file(&format!("{folder}/want.{}", part + 1), &made.want)?;
+    }
     Ok(())
+}
+
+// Each bad line as a script of its own, bad.1 and on, with the answers, for a bad line ends the run.
+fn badlines(folder: &str) -> Outcome {
+    for (place, script) in badlines::scripts().iter().enumerate() {
+        to_file(&format!("{folder}/bad.{}", place + 1), script)?;
+        to_file(&format!("{folder}/bad.{}.want", place + 1), &console::output(script))?;
+    }
+    Ok(())
+}
+
+fn handwork(to: &str, want: &str) -> Outcome {
+    let (script, answers) = handwork::one_script();
+    to_file(to, &script)?;
+    to_file(want, &answers)
 }
 
 fn differ(script: &str, want: &str, got: &str) -> Outcome {
@@ -204,9 +228,13 @@ fn differ(script: &str, want: &str, got: &str) -> Outcome {
 }
 
 fn coverage(seed: u64, calls: u64) -> Outcome {
-    let table = scripts::made(seed, calls, true).seen.table()?;
-    println!("{table}");
-    Ok(())
+    let (page, wrong) = table::page(seed, &scripts::counted(seed, calls));
+    println!("{page}");
+    if wrong.is_empty() {
+        Ok(())
+    } else {
+        Err(wrong.join("\n"))
+    }
 }
 
 fn shrink(script: &str, program: &str, args: &[&str]) -> Outcome {
@@ -245,7 +273,9 @@ fn run(words: &[&str]) -> Outcome {
         ["compare", from, want, got] => compare(from, want, got),
         ["selftest"] => selftest(),
         ["console"] => console(),
-        ["script", seed, calls, to, want] => script(number(seed)?, number(calls)?, to, want),
+        ["scripts", seed, calls, folder] => scripts(number(seed)?, number(calls)?, folder),
+        ["badlines", folder] => badlines(folder),
+        ["handwork", to, want] => handwork(to, want),
         ["differ", from, want, got] => differ(from, want, got),
         ["coverage", seed, calls] => coverage(number(seed)?, number(calls)?),
         ["shrink", from, program, args @ ..] => shrink(from, program, args),

@@ -1,12 +1,13 @@
 // maker.rs: writes a script line by line and its expected output beside it, on a console of its own.
 
 use crate::calls::{Answer, Call};
-use crate::console::{Console, Said};
+use crate::console::{Console, Said, LOG_WORDS};
 use crate::coverage::Seen;
 use crate::groups;
 use crate::queue::{Queue, Ticket};
 use crate::random::Random;
 use crate::rows::Row;
+use crate::unseen::{self, Records};
 
 // On what a call is made: the queue, in one of three ways, or a group by its id.
 #[derive(Clone, Copy, PartialEq, Eq, Debug)]
@@ -24,6 +25,7 @@ pub struct Maker {
     pub want: Vec<u8>,
     pub calls: u64,
     pub seen: Seen,
+    unseen: Records,
 }
 
 pub fn is_call(number: u64) -> bool {
@@ -57,19 +59,33 @@ fn numbered(way: Way, kind: u64) -> u64 {
 }
 
 impl Maker {
-    pub fn new(seed: u64, watched: bool) -> Maker {
+    pub fn new(seed: u64, seen: Seen) -> Maker {
         Maker {
             random: Random::new(seed),
             console: Console::new(),
             script: Vec::new(),
             want: Vec::new(),
             calls: 0,
-            seen: Seen::new(watched),
+            seen,
+            unseen: [false; 4],
         }
     }
 
-    // What a line doesn't use is not looked at, so the rest holds anything now and then.
+    // A record that a call has met is shown before this line writes over it.
     pub fn say(&mut self, numbers: &[u64]) -> (u64, Answer) {
+        let lost = unseen::lost(self.unseen, numbers[0]);
+        for place in (0..4).filter(|place| lost[*place]) {
+            if place == unseen::LOG {
+                self.show_log();
+            } else {
+                self.tell(&[140 + place as u64]);
+            }
+        }
+        self.tell(numbers)
+    }
+
+    // What a line doesn't use is not looked at, so the rest holds anything now and then.
+    fn tell(&mut self, numbers: &[u64]) -> (u64, Answer) {
         let mut line: Row = [0; 5];
         line[..numbers.len()].copy_from_slice(numbers);
         if self.random.chance(30) {
@@ -79,12 +95,27 @@ impl Maker {
         }
         self.write(&line);
         self.calls += u64::from(is_call(line[0]));
+        self.unseen = unseen::after(self.unseen, line[0]);
         self.seen.before(&self.console, &line);
         let said = self.console.answer(&line, &mut self.want);
         self.seen.after(&line, &said);
         match said {
             Said::Result(result, answer) => (result, answer),
             _ => (0, Answer { case: 0, values: [0; 4] }),
+        }
+    }
+
+    // The used rows and two behind them; all words now and then, for those are 41,000 bytes.
+    fn show_log(&mut self) {
+        let (lent, used) = (self.console.lent as u64, self.console.used);
+        let all = used > 4000 || self.random.chance(10);
+        let words = if all { LOG_WORDS as u64 } else { 5 * used + 10 };
+        if words != lent {
+            self.tell(&[135, words]);
+        }
+        self.tell(&[142]);
+        if words != lent {
+            self.tell(&[135, lent]);
         }
     }
 

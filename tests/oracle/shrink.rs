@@ -152,5 +152,11 @@ pub fn shortest(script: &[u8], program: &str, args: &[&str]) -> Result<Vec<u8>, 
     let start = [tail, head, all].into_iter().find(|lines| !lines.is_empty() && differs(lines));
     let Some(start) = start else { return Err("the difference does not come again".to_string()) };
     let short = simplified(dropped(start, &differs), &differs);
-    Ok(joined(&dropped(short, &differs)))
+    let short = joined(&dropped(short, &differs));
+    // The difference as it is now, which is not always the one that was found first.
+    let got = output_of(program, args, &short)?;
+    if let Err(difference) = differ::first(&short, &console::output(&short), &got) {
+        eprintln!("in the shortest script, {}", difference.told);
+    }
+    Ok(short)
 }

@@ -2,6 +2,8 @@
 
 use crate::clauses;
 use crate::console::Console;
+use crate::groups;
+use crate::limitsmet;
 use crate::questions::drained;
 use crate::queue::{pending, well_formed, Phase, Queue};
 use crate::rows::{Row, TOP};
@@ -202,21 +204,20 @@ fn at_reader(console: &Console, names: &mut Vec<&'static str>) {
     }
 }
 
-fn broken(console: &Console, number: u64) -> Option<&'static str> {
-    match number {
-        10..=43 => clauses::alone_in_queue(&console.queue),
-        61..=64 | 70..=89 | 100..=112 => clauses::alone_in_groups(&console.groups),
-        _ => None,
-    }
+fn is_of_groups(number: u64) -> bool {
+    matches!(number, 60..=89 | 100..=112)
 }
 
 // The names of all that this line meets, before it is run.
 pub fn met(console: &Console, line: &Row) -> Vec<&'static str> {
-    let mut names: Vec<&'static str> = broken(console, line[0]).into_iter().collect();
     let number = line[0];
-    let groups_fine = || !clauses::groups_break_something(&console.groups);
+    let groups_fine = is_of_groups(number) && !clauses::groups_break_something(&console.groups);
+    let mut names = limitsmet::met(console, line, groups_fine);
     if clauses::breaks_something(&console.queue) == well_formed(&console.queue) {
         names.push("the clauses and the whole check differ");
+    }
+    if is_of_groups(number) && groups_fine != groups::is_well_formed(&console.groups) {
+        names.push("the clauses and the whole check of groups differ");
     }
     match number {
         10..=18 | 30..=38 | 42 | 43 if well_formed(&console.queue) => {
@@ -226,8 +227,8 @@ pub fn met(console: &Console, line: &Row) -> Vec<&'static str> {
             }
         }
         50 => at_reader(console, &mut names),
-        61..=63 if groups_fine() => at_groups(console, line, &mut names),
-        70..=78 if groups_fine() => {
+        61..=63 if groups_fine => at_groups(console, line, &mut names),
+        70..=78 if groups_fine => {
             let place =
                 console.groups.places.iter().find(|place| place.live && place.id == line[1]);
             if let Some(place) = place {
