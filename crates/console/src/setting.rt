@@ -3,7 +3,6 @@ use crate::answers;
 use crate::fields;
 use crate::held::Held;
 use crate::held::Turned;
-use crate::held::keep_queue;
 use crate::held::no_call;
 use crate::held::unchanged;
 use crate::script::Call;
@@ -40,8 +39,10 @@ fn set_queue(h: Held, call: Call) -> Turned {
         return no_call(h);
     }
     let q = h.queue;
-    let after = fields::set_field(q, call.a, call.b, call.c);
-    keep_queue(h, after, answers::done())
+    let changed = fields::set_field(q, call.a, call.b, call.c);
+    let mut after = h;
+    after.queue = changed;
+    unchanged(after, answers::done())
 }
 
 fn set_word(h: Held, log: &mut [u64], at: usize, value: u64) -> Turned {
