@@ -7,23 +7,14 @@ use cleanup_queue::Ticket;
 use queue_record::move_to;
 use queue_record::select;
 
-pub struct Changed {
-    // Whether the field, the index and the value are in their ranges.
-    pub good: bool,
-    pub queue: Queue,
-}
-
-fn in_range(q: Queue) -> Changed {
-    Changed {
-        good: true,
-        queue: q,
-    }
-}
-
-fn out_of_range(q: Queue) -> Changed {
-    Changed {
-        good: false,
-        queue: q,
+// Whether the field, the index and the value are in their ranges.
+pub fn fits(field: u64, index: u64, value: u64) -> bool {
+    match field {
+        0 | 5 | 9 | 10 => value < 2,
+        3 => index < 64,
+        11 => value < 5,
+        12 => index < 16,
+        _ => field < 14,
     }
 }
 
@@ -48,66 +39,52 @@ fn with_kind(q: Queue, kind: Kind) -> Queue {
     }
 }
 
-fn set_kind(q: Queue, value: u64) -> Changed {
+fn set_kind(q: Queue, value: u64) -> Queue {
     let kind = match value {
         0 => Kind::Scope,
-        1 => Kind::Iterator,
-        _ => return out_of_range(q),
+        _ => Kind::Iterator,
     };
-    in_range(with_kind(q, kind))
+    with_kind(q, kind)
 }
 
-fn set_phase(q: Queue, value: u64) -> Changed {
+fn set_phase(q: Queue, value: u64) -> Queue {
     let phase = match value {
         0 => Phase::Idle,
         1 => Phase::Pending,
         2 => Phase::Ended,
         3 => Phase::Stopping,
-        4 => Phase::Closed,
-        _ => return out_of_range(q),
+        _ => Phase::Closed,
     };
-    in_range(move_to(q, phase))
+    move_to(q, phase)
 }
 
-fn set_number(q: Queue, field: u64, value: u64) -> Changed {
+fn set_number(q: Queue, field: u64, value: u64) -> Queue {
     let mut after = q;
     match field {
         1 => after.domain = value,
         2 => after.next = value,
         4 => after.count = value,
+        9 => after.failed = value == 1,
+        10 => after.issued = value == 1,
         _ => after.bound = value,
     }
-    in_range(after)
+    after
 }
 
-fn set_mark(q: Queue, field: u64, value: u64) -> Changed {
-    if 1 < value {
-        return out_of_range(q);
-    }
-    let mut after = q;
-    match field {
-        9 => after.failed = value == 1,
-        _ => after.issued = value == 1,
-    }
-    in_range(after)
-}
-
-// A slot or a binding.
-fn set_entry(q: Queue, field: u64, index: u64, value: u64) -> Changed {
+// A slot or a binding; past the last one nothing is set.
+fn set_entry(q: Queue, field: u64, index: u64, value: u64) -> Queue {
     let at = index as usize;
     let mut after = q;
     if field == 3 {
-        if 64 <= at {
-            return out_of_range(q);
+        if at < 64 {
+            after.slots[at] = value;
         }
-        after.slots[at] = value;
-        return in_range(after);
+        return after;
     }
-    if 16 <= at {
-        return out_of_range(q);
+    if at < 16 {
+        after.bindings[at] = value;
     }
-    after.bindings[at] = value;
-    in_range(after)
+    after
 }
 
 // The selected ticket; where none is, one of zeros.
@@ -122,36 +99,33 @@ pub fn ticket_in(selection: Selection) -> Ticket {
     }
 }
 
-fn set_selected(q: Queue, value: u64) -> Changed {
+fn set_selected(q: Queue, value: u64) -> Queue {
+    if value == 0 {
+        return select(q, Selection::Free);
+    }
     let was = q.selection;
-    let selection = match value {
-        0 => Selection::Free,
-        1 => Selection::Of(ticket_in(was)),
-        _ => return out_of_range(q),
-    };
-    in_range(select(q, selection))
+    select(q, Selection::Of(ticket_in(was)))
 }
 
-fn set_ticket(q: Queue, field: u64, value: u64) -> Changed {
-    let selection = q.selection;
-    let mut ticket = ticket_in(selection);
+fn set_ticket(q: Queue, field: u64, value: u64) -> Queue {
+    let was = q.selection;
+    let mut ticket = ticket_in(was);
     match field {
         6 => ticket.domain = value,
         7 => ticket.token = value,
         _ => ticket.attempt = value,
     }
-    in_range(select(q, Selection::Of(ticket)))
+    select(q, Selection::Of(ticket))
 }
 
-pub fn set_field(q: Queue, field: u64, index: u64, value: u64) -> Changed {
+// A field that fits.
+pub fn set_field(q: Queue, field: u64, index: u64, value: u64) -> Queue {
     match field {
         0 => set_kind(q, value),
-        1 | 2 | 4 | 13 => set_number(q, field, value),
         3 | 12 => set_entry(q, field, index, value),
         5 => set_selected(q, value),
         6 | 7 | 8 => set_ticket(q, field, value),
-        9 | 10 => set_mark(q, field, value),
         11 => set_phase(q, value),
-        _ => out_of_range(q),
+        _ => set_number(q, field, value),
     }
 }

@@ -58,9 +58,27 @@ pub fn no_call(h: Held) -> Turned {
     unchanged(h, said)
 }
 
-pub fn keep_queue(h: Held, q: Queue, said: Said) -> Turned {
+// What a call of the queue leaves.
+pub struct Left {
+    pub said: Said,
+    pub queue: Queue,
+    pub used: u64,
+}
+
+pub fn leaves(q: Queue, used: u64, said: Said) -> Left {
+    Left {
+        said: said,
+        queue: q,
+        used: used,
+    }
+}
+
+pub fn settle(h: Held, left: Left) -> Turned {
+    let said = left.said;
+    let q = left.queue;
     let mut after = h;
     after.queue = q;
+    after.used = left.used;
     unchanged(after, said)
 }
 

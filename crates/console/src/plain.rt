@@ -1,30 +1,25 @@
 // The plain calls and the lent ones: openings, steps, stages, questions of the held queue.
 use crate::answers;
+use crate::answers::Said;
 use crate::asked;
-use crate::held::Held;
-use crate::held::Turned;
-use crate::held::keep_queue;
-use crate::held::no_call;
-use crate::held::unchanged;
+use crate::held::Left;
+use crate::held::leaves;
 use crate::script::Call;
+use cleanup_queue::Queue;
 use cleanup_queue::Ticket;
 
-pub fn open(h: Held, call: Call, list: &[u64]) -> Turned {
-    if 1 < call.number {
-        return no_call(h);
-    }
+fn open(used: u64, call: Call, list: &[u64]) -> Left {
     if call.number == 0 {
         let q = cleanup_queue::scope(call.a, call.b);
-        return keep_queue(h, q, answers::done());
+        return leaves(q, used, answers::done());
     }
     let opened = cleanup_queue::iterator(call.a, call.b, list);
     let answer = opened.answer;
     let after = opened.queue;
-    keep_queue(h, after, answers::opened(answer))
+    leaves(after, used, answers::opened(answer))
 }
 
-fn birth(h: Held, call: Call) -> Turned {
-    let q = h.queue;
+fn birth(q: Queue, used: u64, call: Call) -> Left {
     let born = if call.number == 10 {
         cleanup_queue::register(q, call.a)
     } else {
@@ -32,12 +27,11 @@ fn birth(h: Held, call: Call) -> Turned {
     };
     let answer = born.answer;
     let after = born.queue;
-    keep_queue(h, after, answers::born(answer))
+    leaves(after, used, answers::born(answer))
 }
 
 // Pop by value, or on the queue lent.
-fn pop(h: Held, call: Call) -> Turned {
-    let q = h.queue;
+fn pop(q: Queue, used: u64, call: Call) -> Left {
     let popped = if call.number == 12 {
         cleanup_queue::pop(q)
     } else {
@@ -45,14 +39,13 @@ fn pop(h: Held, call: Call) -> Turned {
     };
     let answer = popped.answer;
     let after = popped.queue;
-    keep_queue(h, after, answers::popped(answer))
+    leaves(after, used, answers::popped(answer))
 }
 
 // Complete by value, or on the queue lent; the ticket's domain is the held one.
-fn complete(h: Held, call: Call) -> Turned {
-    let q = h.queue;
+fn complete(q: Queue, used: u64, domain: u64, call: Call) -> Left {
     let ticket = Ticket {
-        domain: h.domain,
+        domain: domain,
         token: call.a,
         attempt: call.b,
     };
@@ -63,19 +56,17 @@ fn complete(h: Held, call: Call) -> Turned {
     };
     let answer = completed.answer;
     let after = completed.queue;
-    keep_queue(h, after, answers::completed(answer))
+    leaves(after, used, answers::completed(answer))
 }
 
-fn retry(h: Held) -> Turned {
-    let q = h.queue;
+fn retry(q: Queue, used: u64) -> Left {
     let retried = cleanup_queue::retry(q);
     let answer = retried.answer;
     let after = retried.queue;
-    keep_queue(h, after, answers::retried(answer))
+    leaves(after, used, answers::retried(answer))
 }
 
-fn stage(h: Held, call: Call, list: &[u64]) -> Turned {
-    let q = h.queue;
+fn stage(q: Queue, used: u64, call: Call, list: &[u64]) -> Left {
     let number = call.number;
     let staged = match number {
         15 => cleanup_queue::admit(q, list),
@@ -84,35 +75,35 @@ fn stage(h: Held, call: Call, list: &[u64]) -> Turned {
     };
     let answer = staged.answer;
     let after = staged.queue;
-    keep_queue(h, after, answers::told(answer))
+    leaves(after, used, answers::told(answer))
 }
 
-fn cancel(h: Held) -> Turned {
-    let q = h.queue;
+fn cancel(q: Queue, used: u64) -> Left {
     let cancelled = cleanup_queue::cancel(q);
     let answer = cancelled.answer;
     let after = cancelled.queue;
-    keep_queue(h, after, answers::cancelled(answer))
+    leaves(after, used, answers::cancelled(answer))
 }
 
-pub fn step(h: Held, call: Call, list: &[u64]) -> Turned {
+// The used count is the one that stays.
+pub fn step(q: Queue, used: u64, domain: u64, call: Call, list: &[u64]) -> Left {
     let number = call.number;
     match number {
-        10 | 11 => birth(h, call),
-        12 | 42 => pop(h, call),
-        13 | 43 => complete(h, call),
-        14 => retry(h),
-        15 | 16 | 17 => stage(h, call, list),
-        18 => cancel(h),
-        _ => no_call(h),
+        0 | 1 => open(used, call, list),
+        10 | 11 => birth(q, used, call),
+        12 | 42 => pop(q, used, call),
+        13 | 43 => complete(q, used, domain, call),
+        14 => retry(q, used),
+        15 | 16 | 17 => stage(q, used, call, list),
+        18 => cancel(q, used),
+        _ => leaves(q, used, answers::bad_line(0)),
     }
 }
 
-pub fn question(h: Held, call: Call, list: &[u64]) -> Turned {
-    let q = h.queue;
+pub fn question(q: Queue, call: Call, list: &[u64]) -> Said {
     let number = call.number;
     if number == 28 {
-        return unchanged(h, answers::domain(cleanup_queue::domain(q)));
+        return answers::domain(cleanup_queue::domain(q));
     }
-    unchanged(h, answers::told(asked::of_queue(q, number, list)))
+    answers::told(asked::of_queue(q, number, list))
 }

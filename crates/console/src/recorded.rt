@@ -1,10 +1,10 @@
 // The recorded calls and the reader, on the lent words of the log.
 use crate::answers;
-use crate::answers::Said;
 use crate::held::Held;
+use crate::held::Left;
 use crate::held::Turned;
-use crate::held::keep_queue;
 use crate::held::keep_seen;
+use crate::held::leaves;
 use crate::held::no_call;
 use crate::script::Call;
 use cleanup_queue::Kind;
@@ -13,89 +13,77 @@ use cleanup_queue::Ticket;
 use log_calls::RegisterRecorded;
 use log_calls::StageRecorded;
 
-fn keep_used(h: Held, q: Queue, used: u64, said: Said) -> Turned {
-    let mut after = h;
-    after.used = used;
-    keep_queue(after, q, said)
-}
-
-fn born(h: Held, a: RegisterRecorded) -> Turned {
+fn born(a: RegisterRecorded) -> Left {
     let answer = a.answer;
     let after = a.queue;
-    keep_used(h, after, a.used, answers::born(answer))
+    leaves(after, a.used, answers::born(answer))
 }
 
-fn birth(h: Held, call: Call, log: &mut [u64]) -> Turned {
-    let q = h.queue;
+fn birth(q: Queue, used: u64, call: Call, log: &mut [u64]) -> Left {
     if call.number == 30 {
-        return born(h, log_calls::register_recorded(q, call.a, log, h.used));
+        return born(log_calls::register_recorded(q, call.a, log, used));
     }
-    born(h, log_calls::land_recorded(q, call.a, log, h.used))
+    born(log_calls::land_recorded(q, call.a, log, used))
 }
 
-fn pop(h: Held, log: &mut [u64]) -> Turned {
-    let q = h.queue;
-    let popped = log_calls::pop_recorded(q, log, h.used);
+fn pop(q: Queue, used: u64, log: &mut [u64]) -> Left {
+    let popped = log_calls::pop_recorded(q, log, used);
     let answer = popped.answer;
     let after = popped.queue;
-    keep_used(h, after, popped.used, answers::popped(answer))
+    leaves(after, popped.used, answers::popped(answer))
 }
 
-fn complete(h: Held, call: Call, log: &mut [u64]) -> Turned {
-    let q = h.queue;
+fn complete(q: Queue, used: u64, domain: u64, call: Call, log: &mut [u64]) -> Left {
     let ticket = Ticket {
-        domain: h.domain,
+        domain: domain,
         token: call.a,
         attempt: call.b,
     };
-    let completed = log_calls::complete_recorded(q, ticket, call.c, call.d, log, h.used);
+    let completed = log_calls::complete_recorded(q, ticket, call.c, call.d, log, used);
     let answer = completed.answer;
     let after = completed.queue;
-    keep_used(h, after, completed.used, answers::completed(answer))
+    leaves(after, completed.used, answers::completed(answer))
 }
 
-fn retry(h: Held, log: &mut [u64]) -> Turned {
-    let q = h.queue;
-    let retried = log_calls::retry_recorded(q, log, h.used);
+fn retry(q: Queue, used: u64, log: &mut [u64]) -> Left {
+    let retried = log_calls::retry_recorded(q, log, used);
     let answer = retried.answer;
     let after = retried.queue;
-    keep_used(h, after, retried.used, answers::retried(answer))
+    leaves(after, retried.used, answers::retried(answer))
 }
 
-fn staged(h: Held, a: StageRecorded) -> Turned {
+fn staged(a: StageRecorded) -> Left {
     let answer = a.answer;
     let after = a.queue;
-    keep_used(h, after, a.used, answers::told(answer))
+    leaves(after, a.used, answers::told(answer))
 }
 
-fn stage(h: Held, call: Call, list: &[u64], log: &mut [u64]) -> Turned {
-    let q = h.queue;
+fn stage(q: Queue, used: u64, call: Call, list: &[u64], log: &mut [u64]) -> Left {
     let number = call.number;
     match number {
-        35 => staged(h, log_calls::admit_recorded(q, list, log, h.used)),
-        36 => staged(h, log_calls::admit_without_recorded(q, log, h.used)),
-        _ => staged(h, log_calls::end_recorded(q, log, h.used)),
+        35 => staged(log_calls::admit_recorded(q, list, log, used)),
+        36 => staged(log_calls::admit_without_recorded(q, log, used)),
+        _ => staged(log_calls::end_recorded(q, log, used)),
     }
 }
 
-fn cancel(h: Held, log: &mut [u64]) -> Turned {
-    let q = h.queue;
-    let cancelled = log_calls::cancel_recorded(q, log, h.used);
+fn cancel(q: Queue, used: u64, log: &mut [u64]) -> Left {
+    let cancelled = log_calls::cancel_recorded(q, log, used);
     let answer = cancelled.answer;
     let after = cancelled.queue;
-    keep_used(h, after, cancelled.used, answers::cancelled(answer))
+    leaves(after, cancelled.used, answers::cancelled(answer))
 }
 
-pub fn step(h: Held, call: Call, list: &[u64], log: &mut [u64]) -> Turned {
+pub fn step(q: Queue, used: u64, domain: u64, call: Call, list: &[u64], log: &mut [u64]) -> Left {
     let number = call.number;
     match number {
-        30 | 31 => birth(h, call, log),
-        32 => pop(h, log),
-        33 => complete(h, call, log),
-        34 => retry(h, log),
-        35 | 36 | 37 => stage(h, call, list, log),
-        38 => cancel(h, log),
-        _ => no_call(h),
+        30 | 31 => birth(q, used, call, log),
+        32 => pop(q, used, log),
+        33 => complete(q, used, domain, call, log),
+        34 => retry(q, used, log),
+        35 | 36 | 37 => stage(q, used, call, list, log),
+        38 => cancel(q, used, log),
+        _ => leaves(q, used, answers::bad_line(0)),
     }
 }
 

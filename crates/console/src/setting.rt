@@ -1,14 +1,13 @@
 // The lines that set what is held, and the log.
 use crate::answers;
-use crate::fields::set_field;
+use crate::fields;
 use crate::held::Held;
 use crate::held::Turned;
-use crate::held::keep_queue;
 use crate::held::no_call;
 use crate::held::unchanged;
 use crate::script::Call;
 
-// The held domain and number, the empty list, or the used count.
+// The held domain and number, the empty list, how many words are lent, or the used count.
 fn set_number(h: Held, call: Call) -> Turned {
     let mut after = h;
     let number = call.number;
@@ -18,6 +17,7 @@ fn set_number(h: Held, call: Call) -> Turned {
             after.kept = call.b;
         }
         120 => after.listed = 0,
+        135 => after.lent = call.a as usize,
         _ => after.used = call.a,
     }
     unchanged(after, answers::done())
@@ -35,13 +35,14 @@ fn longer_list(h: Held, value: u64) -> Turned {
 }
 
 fn set_queue(h: Held, call: Call) -> Turned {
-    let q = h.queue;
-    let changed = set_field(q, call.a, call.b, call.c);
-    let after = changed.queue;
-    if !changed.good {
+    if !fields::fits(call.a, call.b, call.c) {
         return no_call(h);
     }
-    keep_queue(h, after, answers::done())
+    let q = h.queue;
+    let changed = fields::set_field(q, call.a, call.b, call.c);
+    let mut after = h;
+    after.queue = changed;
+    unchanged(after, answers::done())
 }
 
 fn set_word(h: Held, log: &mut [u64], at: usize, value: u64) -> Turned {
@@ -52,15 +53,6 @@ fn set_word(h: Held, log: &mut [u64], at: usize, value: u64) -> Turned {
     unchanged(h, answers::done())
 }
 
-fn lend(h: Held, words: usize) -> Turned {
-    if 20500 < words {
-        return no_call(h);
-    }
-    let mut after = h;
-    after.lent = words;
-    unchanged(after, answers::done())
-}
-
 pub fn set_held(h: Held, call: Call, log: &mut [u64]) -> Turned {
     let number = call.number;
     match number {
@@ -68,7 +60,12 @@ pub fn set_held(h: Held, call: Call, log: &mut [u64]) -> Turned {
         121 => longer_list(h, call.a),
         130 => set_queue(h, call),
         134 => set_word(h, log, call.a as usize, call.b),
-        135 => lend(h, call.a as usize),
+        135 => {
+            if 20500 < call.a {
+                return no_call(h);
+            }
+            set_number(h, call)
+        }
         _ => no_call(h),
     }
 }

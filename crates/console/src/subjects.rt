@@ -7,6 +7,7 @@ use crate::held::Held;
 use crate::held::Turned;
 use crate::held::first_of;
 use crate::held::keep_seen;
+use crate::held::settle;
 use crate::held::unchanged;
 use crate::lives;
 use crate::lives::Grouped;
@@ -56,18 +57,20 @@ fn on_log(h: Held, call: Call, list: &[u64], log: &mut [u64]) -> Turned {
     if call.number == 50 {
         return recorded::read(h, call, list, &log[..lent]);
     }
-    recorded::step(h, call, list, &mut log[..lent])
+    let q = h.queue;
+    let left = recorded::step(q, h.used, h.domain, call, list, &mut log[..lent]);
+    settle(h, left)
 }
 
 pub fn on_held(h: Held, call: Call, log: &mut [u64]) -> Turned {
     let all = h.list;
     let count = first_of(h.listed, &all);
     let list = &all[..count];
+    let q = h.queue;
     let ten = call.number / 10;
     match ten {
-        0 => plain::open(h, call, list),
-        1 | 4 => plain::step(h, call, list),
-        2 => plain::question(h, call, list),
+        0 | 1 | 4 => settle(h, plain::step(q, h.used, h.domain, call, list)),
+        2 => unchanged(h, plain::question(q, call, list)),
         3 | 5 => on_log(h, call, list, log),
         _ => setting::set_held(h, call, log),
     }
