@@ -71,10 +71,6 @@ pub fn set_held(h: Held, call: Call, log: &mut [u64]) -> Turned {
 }
 
 // Every word of the log is 0 again.
-pub fn clear(log: &mut [u64]) {
-    let mut i = 0;
-    while i < log.len() {
-        log[i] = 0;
-        i += 1;
-    }
+pub fn clear(log: &mut [u64; 20500]) {
+    *log = [0u64; 20500];
 }
