@@ -10,6 +10,7 @@ use crate::setting;
 use crate::subjects;
 use crate::subjects::Subject;
 use queue_record::refusal::BAD_TEXT;
+ghost use Prim.Native.Nat.{_<_};
 
 // A proved run has to end, and no script has so many lines.
 const LINES: u64 = 1000000000000;
@@ -30,18 +31,24 @@ fn write_answer(page: &mut [u8; 4096], said: Said, used: u64) -> bool {
     ended.open
 }
 
-// Answers a line; whether the run goes on.
-fn tell(page: &mut [u8; 4096], said: Said, line: u64, used: u64) -> bool {
+// Answers a line and gives the next one's number; past all lines where the run ends.
+fn tell(page: &mut [u8; 4096], said: Said, line: u64, used: u64) -> u64
+    requires { ⌜ line < 1000000000000 ⌝ }
+    ensures { λ r. ⌜ line < r ⌝ }
+{
     if said.result == BAD_TEXT {
         write_answer(page, answers::bad_line(line), used);
-        return false;
+        return LINES;
     }
     if said.result == 0 {
         if said.case == 0 {
-            return true;
+            return line + 1;
         }
     }
-    write_answer(page, said, used)
+    if write_answer(page, said, used) {
+        return line + 1;
+    }
+    LINES
 }
 
 // Where no line is left the run ends; an empty script has a bad line 1.
@@ -67,13 +74,11 @@ pub fn run(log: &mut [u64; 20500], chunk: &mut [u8; 4096], page: &mut [u8; 4096]
     while line < LINES {
         let step = script::next_line(chunk, input);
         let Step::Obey(call, after) = step else {
-            tell_end(page, step, line, h.used);
-            return;
+            return tell_end(page, step, line, h.used);
         };
         input = after;
         let mut said = answers::bad_line(0);
-        let subject = subjects::subject_of(call.number);
-        match subject {
+        match subjects::subject_of(call.number) {
             Subject::Held => {
                 let turned = subjects::on_held(h, call, log);
                 h = turned.held;
@@ -93,14 +98,10 @@ pub fn run(log: &mut [u64; 20500], chunk: &mut [u8; 4096], page: &mut [u8; 4096]
             Subject::All => {
                 h = held::start();
                 g = held::first_groups();
-                setting::clear(log);
-                said = answers::done();
+                said = setting::clear(log);
             }
             Subject::NoCall => {}
         }
-        if !tell(page, said, line, h.used) {
-            return;
-        }
-        line += 1;
+        line = tell(page, said, line, h.used);
     }
 }

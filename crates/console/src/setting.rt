@@ -1,5 +1,6 @@
 // The lines that set what is held, and the log.
 use crate::answers;
+use crate::answers::Said;
 use crate::fields;
 use crate::held::Held;
 use crate::held::Turned;
@@ -71,10 +72,7 @@ pub fn set_held(h: Held, call: Call, log: &mut [u64]) -> Turned {
 }
 
 // Every word of the log is 0 again.
-pub fn clear(log: &mut [u64]) {
-    let mut i = 0;
-    while i < log.len() {
-        log[i] = 0;
-        i += 1;
-    }
+pub fn clear(log: &mut [u64; 20500]) -> Said {
+    *log = [0u64; 20500];
+    answers::done()
 }
