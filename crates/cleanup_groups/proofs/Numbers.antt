@@ -15,6 +15,7 @@ use Rattle.queue_record.specs.declared.openings.OpenAnswer.{OpenAnswer}
 use Rattle.queue_record.specs.declared.search.Found.{Found}
 use Rattle.queue_record.specs.declared.search.Found.the-variants.{At, Missing}
 use Rattle.cleanup_queue.specs.Answers.{openedSays}
+use Rattle.cleanup_queue.proofs.Numbers.{due-if}
 use Rattle.cleanup_queue.specs.Orders.{due, firstDue}
 use Rattle.group_record.specs.Record.{queueAt}
 use Rattle.group_record.specs.Questions.{drained}
@@ -31,11 +32,6 @@ use Rattle.group_lives.specs.declared.openings.AddAnswer.{AddAnswer}
 use Rattle.group_lives.specs.declared.endings.CloseAnswer.{CloseAnswer}
 use Rattle.cleanup_groups.specs.Answers.{addedSays, closedSays, gotSays}
 use Rattle.cleanup_groups.specs.Orders.{newOrder, openOrder, idOrder, undrainedAt, closeOrder, sealOrder}
-
--- one test more in front: what it refuses with is due exactly if it holds
-pub due-if : {A : Type 0} (number : A → ℕ) (b : Bool) (x y : A) {k m : ℕ} → number x ≡ k → number y ≡ m → number (if b then x else y) ≡ (if b then k else m)
-due-if number true x y p q = p
-due-if number false x y p q = q
 
 pub new-number : (base : ℕ) → openedSays (newOf base .answer) .number ≡ firstDue (newOrder base)
 unfolding newOf

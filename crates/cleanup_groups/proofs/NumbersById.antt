@@ -11,7 +11,7 @@ use Rattle.queue_record.specs.declared.record.Queue.{Queue}
 use Rattle.queue_record.specs.declared.record.Ticket.{Ticket}
 use Rattle.queue_record.specs.declared.search.Found.{Found}
 use Rattle.queue_record.specs.declared.search.Found.the-variants.{At, Missing}
-use Rattle.queue_questions.specs.Questions.{yesOrNo, matches, isCancelledTold, domainTold}
+use Rattle.queue_questions.specs.Questions.{matches, isCancelledTold, domainTold}
 use Rattle.queue_questions.specs.declared.questions.Told.{Told}
 use Rattle.cleanup_queue.specs.Answers.{registeredSays, poppedSays, completedSays, retriedSays, toldSays, cancelledSays, domainSays}
 use Rattle.cleanup_queue.specs.Orders.{Due, firstDue, registerOrder, landOrder, popOrder, completeOrder, retryOrder, brokenOnly}
@@ -40,7 +40,6 @@ use Rattle.group_stages.specs.declared.stages.GroupCancelAnswer.{GroupCancelAns
 use Rattle.group_rounds.specs.declared.rounds.RetryAllAnswer.{RetryAllAnswer}
 use Rattle.cleanup_groups.specs.Answers.{lenSays}
 use Rattle.cleanup_groups.specs.Orders.{orderAt, stepOrder, recordOrder}
-use Rattle.cleanup_groups.proofs.Numbers.{due-if}
 
 -- ---- as the queue
 module _ (g : Groups) (id : ℕ) where
@@ -110,19 +109,15 @@ module _ (g : Groups) (id : ℕ) where
 
 -- ---- calls on the whole record: each yes-or-no one is a toldOf
 module _ (g : Groups) where
-  answered : (b : Bool) → toldSays (yesOrNo b) .number ≡ 0
-  answered true = refl
-  answered false = refl
-
   pub whole-number : (b : Bool) → toldSays (toldOf g b) .number ≡ firstDue (recordOrder g)
-  whole-number b = due-if (λ (r : Told). toldSays r .number) (not (wellGrouped g)) _ _ refl (answered b)
+  whole-number b = queue.due-if (λ (r : Told). toldSays r .number) (not (wellGrouped g)) _ _ refl (queue.told-number b)
 
   pub len-number : lenSays (lenOf g) .number ≡ firstDue (recordOrder g)
-  len-number = due-if (λ (r : LenTold). lenSays r .number) (not (wellGrouped g)) _ _ refl refl
+  len-number = queue.due-if (λ (r : LenTold). lenSays r .number) (not (wellGrouped g)) _ _ refl refl
 
   pub retry-all-number : toldSays (retriedAll g .answer) .number ≡ firstDue (recordOrder g)
   unfolding retriedAll
-  retry-all-number = due-if (λ (r : RetryAllAnswer). toldSays (r .answer) .number) (not (wellGrouped g)) _ _ refl (if-by (λ (r : RetryAllAnswer). toldSays (r .answer) .number ≡ 0) (not (retriesAll g)) _ _ (λ _. refl) (λ _. refl))
+  retry-all-number = queue.due-if (λ (r : RetryAllAnswer). toldSays (r .answer) .number) (not (wellGrouped g)) _ _ refl (if-by (λ (r : RetryAllAnswer). toldSays (r .answer) .number ≡ 0) (not (retriesAll g)) _ _ (λ _. refl) (λ _. refl))
 
 -- ---- an id that is not live gets 10 from every call by id, and a spoiled record 1
 module _ (g : Groups) (id : ℕ) (order : Queue → List Due) where

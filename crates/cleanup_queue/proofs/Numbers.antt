@@ -47,7 +47,7 @@ abbrev Returns : Queue → ℕ → RegisterAnswer → Type 0
 Returns q n r = (refusal given : ℕ) → r .answer ≡ Registered.Refused refusal given → (given ≡ n) × (r .queue ≡ q)
 
 -- one test more in front: what it refuses with is due exactly if it holds
-due-if : {A : Type 0} (number : A → ℕ) (b : Bool) (x y : A) {k m : ℕ} → number x ≡ k → number y ≡ m → number (if b then x else y) ≡ (if b then k else m)
+pub due-if : {A : Type 0} (number : A → ℕ) (b : Bool) (x y : A) {k m : ℕ} → number x ≡ k → number y ≡ m → number (if b then x else y) ≡ (if b then k else m)
 due-if number true x y p q = p
 due-if number false x y p q = q
 
@@ -112,11 +112,12 @@ retry-number q = due-if answer (not (wellFormed q)) _ _ refl (allowed (q .select
     allowed (Of t) = due-if answer (not (retryAllowed q (Of t))) _ _ refl refl
 
 -- ---- the calls that refuse only with 1
-module _ (q : Queue) where
-  told-number : (b : Bool) → toldSays (yesOrNo b) .number ≡ 0
-  told-number true = refl
-  told-number false = refl
+-- a yes or a no is no refusal
+pub told-number : (b : Bool) → toldSays (yesOrNo b) .number ≡ 0
+told-number true = refl
+told-number false = refl
 
+module _ (q : Queue) where
   pub asked-number : (answer : Bool) → toldSays (asked q answer) .number ≡ firstDue (brokenOnly q)
   asked-number answer = due-if (λ (r : Told). toldSays r .number) (not (wellFormed q)) _ _ refl (told-number answer)
 
