@@ -12,4 +12,5 @@ pub use questions::is_empty;
 pub use questions::is_issued;
 pub use questions::is_pending;
 pub use questions::is_settled;
+pub use questions::may_finish;
 pub use questions::say;

@@ -115,7 +115,7 @@ pub fn can_retry(q: Queue) -> Told
 }
 
 // Nothing selected, neither pending nor cancelled, and the target's set is the committed one.
-fn may_finish(selection: Selection, phase: Phase, target: &[u64], committed: &[u64]) -> bool
+pub fn may_finish(selection: Selection, phase: Phase, target: &[u64], committed: &[u64]) -> bool
     ensures { λ r. ⌜ r ≡ finishable selection phase (now (target .entry)) (now (committed .entry)) ⌝ }
 {
     let Selection::Free = selection else {

@@ -24,7 +24,7 @@ pub fn zeros_from(s: &[u64], from: u64) -> bool
 }
 
 // A scope has no bindings and is Ended or Closed.
-fn scope_fits(kind: Kind, bound: u64, phase: Phase) -> bool
+pub fn scope_fits(kind: Kind, bound: u64, phase: Phase) -> bool
     ensures { λ r. ⌜ r ≡ scopeFits kind bound phase ⌝ }
 {
     let Kind::Scope = kind else {
@@ -37,7 +37,7 @@ fn scope_fits(kind: Kind, bound: u64, phase: Phase) -> bool
 }
 
 // A selected ticket has the queue's domain, an issued token and an attempt below next.
-fn ticket_fits(domain: u64, count: u64, next: u64, t: Ticket) -> bool
+pub fn ticket_fits(domain: u64, count: u64, next: u64, t: Ticket) -> bool
     ensures { λ r. ⌜ r ≡ ticketFits domain count next (Of t) ⌝ }
 {
     if t.domain != domain {
@@ -50,7 +50,7 @@ fn ticket_fits(domain: u64, count: u64, next: u64, t: Ticket) -> bool
 }
 
 // Never both marks; an issued slot is empty, a ready one occupied.
-fn slot_fits(failed: bool, issued: bool, number: u64) -> bool
+pub fn slot_fits(failed: bool, issued: bool, number: u64) -> bool
     ensures { λ r. ⌜ r ≡ (marksFit true failed issued && slotFits failed issued number) ⌝ }
 {
     if issued {

@@ -8,6 +8,9 @@ mod search;
 mod setters;
 mod tally;
 
+pub use check::scope_fits;
+pub use check::slot_fits;
+pub use check::ticket_fits;
 pub use check::well_formed;
 pub use check::zeros_from;
 pub use openings::OpenAnswer;

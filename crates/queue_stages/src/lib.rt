@@ -6,5 +6,6 @@ pub use stages::Cancelled;
 pub use stages::StageAnswer;
 pub use stages::admit;
 pub use stages::admit_without;
+pub use stages::after_admit;
 pub use stages::cancel;
 pub use stages::end;

@@ -18,7 +18,7 @@ pub struct StageAnswer {
 }
 
 // From Idle, admit moves only with a target that matches; elsewhere it moves nothing.
-fn after_admit(phase: Phase, matched: bool) -> Phase
+pub fn after_admit(phase: Phase, matched: bool) -> Phase
     ensures { λ r. ⌜ r ≡ afterAdmit phase matched ⌝ }
 {
     if matched {

@@ -150,7 +150,7 @@ fn same_ticket(a: Ticket, b: Ticket) -> bool
 }
 
 // Whether `ticket` is the one that is out.
-fn is_out(issued: bool, selection: Selection, ticket: Ticket) -> bool
+pub fn is_out(issued: bool, selection: Selection, ticket: Ticket) -> bool
     ensures { λ r. ⌜ r ≡ isOut issued selection ticket ⌝ }
 {
     if !issued {
@@ -162,7 +162,7 @@ fn is_out(issued: bool, selection: Selection, ticket: Ticket) -> bool
     same_ticket(own, ticket)
 }
 
-fn keeps_on_done(outcome: u64, kept: u64) -> bool
+pub fn keeps_on_done(outcome: u64, kept: u64) -> bool
     ensures { λ r. ⌜ r ≡ keepsOnDone outcome kept ⌝ }
 {
     if outcome != 0 {

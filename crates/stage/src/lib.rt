@@ -9,4 +9,6 @@ pub use phases::cancelled;
 pub use phases::differ;
 pub use phases::next_phase;
 pub use phases::pending;
+pub use phases::phase_at;
+pub use phases::phase_number;
 pub use phases::settled;

@@ -27,7 +27,7 @@ const NEXT: [[u64; 4]; 5] = [
 ];
 
 // The phase's row of the table.
-fn phase_number(phase: Phase) -> u64
+pub fn phase_number(phase: Phase) -> u64
     ensures { λ r. ⌜ r ≡ phaseNumber phase ⌝ }
 {
     match phase {
@@ -52,7 +52,7 @@ fn event_number(event: Event) -> u64
 }
 
 // The phase of a row; there is none past Closed.
-fn phase_at(number: u64) -> Phase
+pub fn phase_at(number: u64) -> Phase
     ensures { λ r. ⌜ r ≡ phaseAt number ⌝ }
 {
     if number == 0 {

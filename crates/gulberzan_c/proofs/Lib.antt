@@ -1,0 +1,5 @@
+pub mod Kept
+pub mod KeptBirths
+pub mod KeptAttempts
+pub mod KeptStages
+pub mod BackWords

@@ -1,0 +1,12 @@
+pub mod Parts
+pub mod Places
+pub mod RoundTrip
+pub mod Setters
+pub mod CheckParts
+pub mod Down
+pub mod OnWords
+pub mod BirthWords
+pub mod AttemptWords
+pub mod OpenWords
+pub mod QuestionWords
+pub mod StageWords

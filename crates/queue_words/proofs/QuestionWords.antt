@@ -1,0 +1,78 @@
+-- The questions on the words
+use Prim.Native.Nat.{ℕ, _+_, _-_, _<_, _≤_}
+use mathlib.Core.Path.{_≡_, refl, sym, ap, _∙_}
+use mathlib.Core.Bool.{Bool, true, false, not}
+use mathlib.Core.List.{List, []}
+use native.Mathlib.Omega.{arith}
+use lib.ListN.{length, getD, take, drop}
+use lib.Seq.{take-take}
+use Rattle.stage.proofs.Ways.{hit, miss}
+use Rattle.queue_record.specs.Refusals.{done, broken}
+use Rattle.queue_record.specs.WellFormed.{wellFormed}
+use Rattle.queue_record.specs.Waiting.{occupied, others}
+use Rattle.queue_record.specs.Newest.{newest}
+use Rattle.queue_record.specs.declared.record.Ticket.{Ticket}
+use Rattle.queue_record.specs.declared.record.Selection.{Selection}
+use Rattle.queue_record.specs.declared.record.Selection.the-variants.{Free, Of}
+use Rattle.queue_record.specs.declared.search.Found.the-variants.{At, Missing}
+use Rattle.queue_record.proofs.Last.{newest-none}
+use Rattle.queue_steps.specs.Attempts.{mayRetry, retryAllowed}
+use Rattle.queue_questions.specs.Questions.{yesOrNo, asked, nothingLeft, committed, domainTold}
+use Rattle.queue_questions.specs.declared.questions.Told.{Told}
+use Rattle.queue_questions.specs.declared.questions.DomainTold.{DomainTold}
+use Rattle.queue_questions.proofs.Left.{newest-left}
+use Rattle.queue_words.specs.Words.{word, markAt, slotsIn, selectionIn, queueOf, isSound}
+use Rattle.queue_words.specs.Exported.{exported, answerOf, refusedOn, toldSaid, toldOn, domainSaid, domainOn}
+use Rattle.queue_words.specs.InPlace.{yesWord, saidIn}
+use Rattle.queue_words.proofs.CheckParts.{free-in, own-in, slot-word, ticketIn}
+use Rattle.queue_words.proofs.OnWords.{unsound-by, sound-on, not-broken}
+use Rattle.queue_words.proofs.AttemptWords.{own-place}
+
+-- yes or no is its word
+pub told-word : (ws : List ℕ) (b : Bool) → toldSaid (yesOrNo b) ws ≡ saidIn ws b
+told-word ws true = refl
+told-word ws false = refl
+
+module _ (ws : List ℕ) where
+  pub told-unsound : (b : Bool) → isSound ws ≡ false → toldOn ws (asked (queueOf ws) b) ≡ refusedOn broken 0 ws
+  told-unsound b u = unsound-by ws 0 _ u (λ e w. ap (λ (t : Told). toldSaid t ws) (hit _ (ap not w)))
+
+  pub told-sound : (b : Bool) → isSound ws ≡ true → toldOn ws (asked (queueOf ws) b) ≡ saidIn ws b
+  told-sound b s = sound-on ws s 0 _ ∙ (ap (λ (t : Told). toldSaid t ws) (miss _ (not-broken ws s)) ∙ told-word ws b)
+
+  -- ---- nothing left
+  abbrev left : Selection → Bool
+  left s = nothingLeft s (others s (occupied 0 (slotsIn ws)))
+
+  pub left-selected : (word ws 68 ≡ 0 → ⊥) → left (selectionIn ws) ≡ false
+  left-selected n = ap left (own-in ws n)
+
+  pub left-waiting : (k : ℕ) → word ws 68 ≡ 0 → newest (occupied 0 (slotsIn ws)) ≡ At k → left (selectionIn ws) ≡ false
+  left-waiting k e m = ap left (free-in ws e) ∙ newest-left _ k m
+
+  pub left-none : word ws 68 ≡ 0 → newest (occupied 0 (slotsIn ws)) ≡ Missing → left (selectionIn ws) ≡ true
+  left-none e m = ap left (free-in ws e) ∙ ap (nothingLeft Free) (newest-none _ m)
+
+  -- ---- retry allowed
+  pub allowed-free : selectionIn ws ≡ Free → retryAllowed (queueOf ws) (selectionIn ws) ≡ false
+  allowed-free e = ap (retryAllowed (queueOf ws)) e
+
+  pub allowed-own : (t : Ticket) → isSound ws ≡ true → selectionIn ws ≡ Of t → retryAllowed (queueOf ws) (selectionIn ws) ≡ mayRetry (markAt (word ws 72)) (word ws (3 + t .token)) (word ws 2)
+  unfolding queueOf
+  allowed-own t s e = ap (retryAllowed (queueOf ws)) e ∙ ap (λ (n : ℕ). mayRetry (markAt (word ws 72)) n (word ws 2)) (slot-word ws (t .token) (own-place ws s t e))
+
+  -- ---- the committed bindings
+  pub committed-words : word ws 91 ≤ 16 → take (75 + word ws 91 - 75) (drop 75 ws) ≡ committed (queueOf ws)
+  unfolding queueOf
+  committed-words few =
+      let e : 75 + word ws 91 - 75 ≡ word ws 91 = omega arith in
+      ap (λ (n : ℕ). take n (drop 75 ws)) e ∙ sym (take-take (word ws 91) 16 (drop 75 ws) few)
+
+  -- ---- the domain
+  pub domain-unsound : isSound ws ≡ false → domainOn ws ≡ refusedOn broken 0 ws
+  unfolding domainOn domainTold
+  domain-unsound u = unsound-by ws 0 _ u (λ e w. ap (λ (t : DomainTold). domainSaid t ws) (hit _ (ap not w)))
+
+  pub domain-sound : isSound ws ≡ true → domainOn ws ≡ exported done (answerOf 1 (word ws 1)) ws
+  unfolding domainOn domainTold queueOf
+  domain-sound s = sound-on ws s 0 _ ∙ ap (λ (t : DomainTold). domainSaid t ws) (miss _ (not-broken ws s))

@@ -1,0 +1,66 @@
+-- Admit, end and cancel on the words
+use Prim.Native.Nat.{ℕ}
+use mathlib.Core.Path.{_≡_, ap, _∙_}
+use mathlib.Core.Bool.{Bool, true, false, not}
+use mathlib.Core.List.{List}
+use Rattle.stage.specs.Phases.{next, isPending, phaseAt}
+use Rattle.stage.specs.declared.phases.Phase.{Phase}
+use Rattle.stage.specs.declared.phases.Event.the-variants.{End, Cancel}
+use Rattle.stage.proofs.Ways.{hit, miss}
+use Rattle.queue_record.specs.Refusals.{broken}
+use Rattle.queue_record.specs.Record.{withPhase}
+use Rattle.queue_record.specs.WellFormed.{wellFormed}
+use Rattle.queue_questions.specs.Questions.{yesOrNo, matches}
+use Rattle.queue_stages.specs.Stages.{afterAdmit, admitted, ended, cancelledBy}
+use Rattle.queue_words.specs.Words.{word, queueOf, wordsOf, isSound}
+use Rattle.queue_words.specs.Exported.{Exported, exported, answerOf, refusedOn, toldSaid, stageExported, cancelExported, admitOn, admitWithoutOn, endOn, cancelOn}
+use Rattle.queue_words.specs.InPlace.{saidIn, movedIn}
+use Rattle.queue_words.proofs.Setters.{hold-phase}
+use Rattle.queue_words.proofs.QuestionWords.{told-word}
+use Rattle.queue_words.proofs.OnWords.{unsound-on, sound-on, not-broken, held}
+
+module _ (ws : List ℕ) where
+  -- the phase that the words hold
+  abbrev pub phaseIn : Phase
+  phaseIn = phaseAt (word ws 74)
+
+  module _ (u : isSound ws ≡ false) where
+    pub admit-unsound : (target : List ℕ) → admitOn ws target ≡ refusedOn broken 0 ws
+    unfolding admitOn admitted
+    admit-unsound target = unsound-on ws 0 _ u (λ w. ap stageExported (hit _ (ap not w)))
+
+    pub admit-without-unsound : admitWithoutOn ws ≡ refusedOn broken 0 ws
+    unfolding admitWithoutOn admitted
+    admit-without-unsound = unsound-on ws 0 _ u (λ w. ap stageExported (hit _ (ap not w)))
+
+    pub end-unsound : endOn ws ≡ refusedOn broken 0 ws
+    unfolding endOn ended
+    end-unsound = unsound-on ws 0 _ u (λ w. ap stageExported (hit _ (ap not w)))
+
+    pub cancel-unsound : cancelOn ws ≡ refusedOn broken 0 ws
+    unfolding cancelOn cancelledBy
+    cancel-unsound = unsound-on ws 0 _ u (λ w. ap cancelExported (hit _ (ap not w)))
+
+  module _ (s : isSound ws ≡ true) where
+    phase-moved : (told : Bool) (p : Phase) → saidIn (wordsOf (withPhase (queueOf ws) p)) told ≡ movedIn ws told p
+    unfolding movedIn
+    phase-moved told p = ap (λ (r : List ℕ). saidIn r told) (hold-phase (held ws s) p .words)
+
+    stage-moved : (told : Bool) (p : Phase) → toldSaid (yesOrNo told) (wordsOf (withPhase (queueOf ws) p)) ≡ movedIn ws told p
+    stage-moved told p = told-word (wordsOf (withPhase (queueOf ws) p)) told ∙ phase-moved told p
+
+    pub admit-moved : (target : List ℕ) → admitOn ws target ≡ movedIn ws (isPending (afterAdmit phaseIn (matches (queueOf ws) target))) (afterAdmit phaseIn (matches (queueOf ws) target))
+    unfolding admitOn admitted queueOf
+    admit-moved target = sound-on ws s 0 _ ∙ (ap stageExported (miss _ (not-broken ws s)) ∙ stage-moved (isPending (afterAdmit phaseIn (matches (queueOf ws) target))) (afterAdmit phaseIn (matches (queueOf ws) target)))
+
+    pub admit-without-moved : admitWithoutOn ws ≡ movedIn ws (isPending phaseIn) phaseIn
+    unfolding admitWithoutOn admitted queueOf
+    admit-without-moved = sound-on ws s 0 _ ∙ (ap stageExported (miss _ (not-broken ws s)) ∙ stage-moved (isPending phaseIn) phaseIn)
+
+    pub end-moved : endOn ws ≡ movedIn ws (isPending phaseIn) (next phaseIn End)
+    unfolding endOn ended queueOf
+    end-moved = sound-on ws s 0 _ ∙ (ap stageExported (miss _ (not-broken ws s)) ∙ stage-moved (isPending phaseIn) (next phaseIn End))
+
+    pub cancel-moved : cancelOn ws ≡ movedIn ws false (next phaseIn Cancel)
+    unfolding cancelOn cancelledBy queueOf
+    cancel-moved = sound-on ws s 0 _ ∙ (ap cancelExported (miss _ (not-broken ws s)) ∙ phase-moved false (next phaseIn Cancel))

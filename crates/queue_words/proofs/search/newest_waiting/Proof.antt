@@ -1,0 +1,36 @@
+-- What lies behind the place that is reached stays 0
+use Prim.Native.Nat.{_≤_}
+use mathlib.Core.Path.{_≡_, sym}
+use mathlib.Core.Bool.{true}
+use native.Mathlib.Omega.{arith}
+use borrow.Author.Needs.{needs}
+use lib.ListN.{length}
+use Rattle.queue_record.specs.WellFormed.{restZero}
+use Rattle.queue_words.specs.Words.{slotsIn}
+use Rattle.queue_words.proofs.OnWords.{sound-length, few-tokens, rest-zero}
+use Rattle.queue_words.proofs.Down.{down-found, down-pass, down-none}
+use Rattle.queue_words.proofs.search.newest_waiting.Statement.{statement}
+use Rattle.queue_words.proofs.search.newest_waiting.Tie as tie
+
+abbrev Inv-loop : tie.InvT-loop
+Inv-loop w left₀ left = (left ≤ 64) × (restZero left (slotsIn w) ≡ true)
+
+abbrev μ-loop : tie.MeasureT-loop
+μ-loop w left₀ left = left
+
+pub newest-waiting-spec : {M : Type 1} → statement M
+newest-waiting-spec =
+    tie.close
+    (tie.spec
+    Inv-loop
+    μ-loop
+    (λ c. search needs)
+    (λ c. (few-tokens (c .before .args .w .now) (c .before .pre), rest-zero (c .before .args .w .now) (c .before .pre)))
+    (λ c. search needs)
+    (λ c. omega (arith, (c .before .loop .inv .0)))
+    (λ c. omega (arith, (c .before .loop .inv .0)))
+    (λ c. omega (arith, (c .before .loop .inv .0)))
+    (λ c. let l : length (c .before .before .before .before .before .args .w .now) ≡ 92 = sound-length (c .before .before .before .before .before .args .w .now) (c .before .before .before .before .before .pre) in sym (down-found (c .before .before .before .before .before .args .w .now) (c .before .before .before .loop .left) l (c .before .before .before .loop .inv .0) (c .before .before .loop-test .taken) (c .before .before .before .loop .inv .1) (c .if1 .taken)))
+    (λ c. omega arith)
+    (λ c. let l : length (c .before .before .before .before .before .args .w .now) ≡ 92 = sound-length (c .before .before .before .before .before .args .w .now) (c .before .before .before .before .before .pre) in (omega (arith, (c .before .before .before .loop .inv .0)), down-pass (c .before .before .before .before .before .args .w .now) (c .before .before .before .loop .left) l (c .before .before .before .loop .inv .0) (c .before .before .loop-test .taken) (c .before .before .before .loop .inv .1) (c .if1 .left)))
+    (λ c. sym (down-none (c .before .before .before .args .w .now) (c .before .loop .left) (c .loop-test .left) (c .before .loop .inv .1))))

@@ -1,0 +1,38 @@
+// The parts of a record as numbers: the kind, a ticket and the selection.
+use queue_record::Kind;
+use queue_record::Selection;
+use queue_record::Ticket;
+ghost use mathlib.Core.Path.{_≡_};
+ghost use Rattle.queue_words.specs.Words.{word, kindAt, ticketOf, selectionAt};
+
+pub fn kind_at(number: u64) -> Kind
+    ensures { λ r. ⌜ r ≡ kindAt number ⌝ }
+{
+    if number == 0 {
+        return Kind::Scope;
+    }
+    Kind::Iterator
+}
+
+pub fn selection_at(selected: u64, domain: u64, token: u64, attempt: u64) -> Selection
+    ensures { λ r. ⌜ r ≡ selectionAt selected domain token attempt ⌝ }
+{
+    if selected == 0 {
+        return Selection::Free;
+    }
+    Selection::Of(Ticket {
+        domain: domain,
+        token: token,
+        attempt: attempt,
+    })
+}
+
+pub fn ticket_at(words: &[u64; 3]) -> Ticket
+    ensures { λ r. ⌜ r ≡ ticketOf (word (now (words .entry)) 0) (word (now (words .entry)) 1) (word (now (words .entry)) 2) ⌝ }
+{
+    Ticket {
+        domain: words[0],
+        token: words[1],
+        attempt: words[2],
+    }
+}

@@ -1,0 +1,225 @@
+/* gulberzan.h: the proved cleanup queue for C and C++. docs/LIBRARY.md has the layout, the answers and the rules of use. */
+#ifndef GULBERZAN_H
+#define GULBERZAN_H
+
+#include <stddef.h>
+#include <stdint.h>
+
+#ifdef __cplusplus
+extern "C" {
+#endif
+
+/* Sizes, in words of 64 bits unless said. */
+#define GULBERZAN_QUEUE_WORDS 92
+#define GULBERZAN_ANSWER_WORDS 5
+#define GULBERZAN_TICKET_WORDS 3
+#define GULBERZAN_ROW_WORDS 5
+#define GULBERZAN_SLOTS 64
+#define GULBERZAN_BINDINGS 16
+#define GULBERZAN_LOG_ROWS 4096
+/* What a log of the most rows takes. */
+#define GULBERZAN_LOG_WORDS (GULBERZAN_LOG_ROWS * GULBERZAN_ROW_WORDS)
+
+/* Places of a queue's words. */
+enum gulberzan_word {
+    GULBERZAN_KIND = 0,
+    GULBERZAN_DOMAIN = 1,
+    GULBERZAN_NEXT_ATTEMPT = 2,
+    GULBERZAN_FIRST_SLOT = 3,
+    GULBERZAN_TOKENS_ISSUED = 67,
+    GULBERZAN_SELECTED = 68,
+    GULBERZAN_TICKET_DOMAIN = 69,
+    GULBERZAN_TICKET_TOKEN = 70,
+    GULBERZAN_TICKET_ATTEMPT = 71,
+    GULBERZAN_FAILED = 72,
+    GULBERZAN_ISSUED = 73,
+    GULBERZAN_PHASE = 74,
+    GULBERZAN_FIRST_BINDING = 75,
+    GULBERZAN_BINDINGS_USED = 91
+};
+
+/* Values of the words kind and phase, and of the reader's kind. */
+enum gulberzan_kind { GULBERZAN_SCOPE = 0, GULBERZAN_ITERATOR = 1 };
+enum gulberzan_phase {
+    GULBERZAN_IDLE = 0,
+    GULBERZAN_PENDING = 1,
+    GULBERZAN_ENDED = 2,
+    GULBERZAN_STOPPING = 3,
+    GULBERZAN_CLOSED = 4
+};
+
+/* Outcomes for complete. */
+enum gulberzan_outcome { GULBERZAN_OUTCOME_DONE = 0, GULBERZAN_OUTCOME_FAILED = 1 };
+
+/* Results: 0 is done, another number is the refusal. */
+enum gulberzan_result {
+    GULBERZAN_OK = 0,
+    GULBERZAN_BROKEN = 1,
+    GULBERZAN_BAD_NUMBER = 2,
+    GULBERZAN_NO_SLOT = 3,
+    GULBERZAN_NOT_PENDING = 4,
+    GULBERZAN_NO_ATTEMPT = 5,
+    GULBERZAN_NOT_OUT = 6,
+    GULBERZAN_KEPT_ON_DONE = 7,
+    GULBERZAN_NO_RETRY = 8,
+    GULBERZAN_HOLLOW = 9,
+    GULBERZAN_TOO_MANY_BINDINGS = 14,
+    GULBERZAN_BAD_OUTCOME = 15,
+    GULBERZAN_BAD_LOG = 16,
+    GULBERZAN_LOG_FULL = 17
+};
+
+/* The first word of an answer; what the other four are stands at each call. */
+enum gulberzan_case {
+    GULBERZAN_CASE_REFUSED = 0,
+    GULBERZAN_CASE_DONE = 1,
+    GULBERZAN_CASE_NOTHING = 1,
+    GULBERZAN_CASE_WORK = 2,
+    GULBERZAN_CASE_NO = 1,
+    GULBERZAN_CASE_YES = 2
+};
+
+/* Places of an answer's words, and what the values are where pop hands out work and retry a ticket. */
+enum gulberzan_answer {
+    GULBERZAN_CASE = 0,
+    GULBERZAN_VALUE = 1,
+    GULBERZAN_WORK_DOMAIN = 1,
+    GULBERZAN_WORK_TOKEN = 2,
+    GULBERZAN_WORK_ATTEMPT = 3,
+    GULBERZAN_WORK_NUMBER = 4
+};
+
+/* Kinds of log rows; a row is kind, token, attempt, outcome, number. */
+enum gulberzan_row {
+    GULBERZAN_ROW_REGISTER = 0,
+    GULBERZAN_ROW_LAND = 1,
+    GULBERZAN_ROW_POP = 2,
+    GULBERZAN_ROW_COMPLETE = 3,
+    GULBERZAN_ROW_RETRY = 4,
+    GULBERZAN_ROW_ADMIT = 5,
+    GULBERZAN_ROW_END = 6,
+    GULBERZAN_ROW_CANCEL = 7
+};
+
+/* Opens a scope in queue, whatever stood there; its result is always 0. */
+uint64_t gulberzan_open_scope(uint64_t queue[GULBERZAN_QUEUE_WORDS], uint64_t domain, uint64_t first_attempt);
+
+/* Opens an iterator with count bindings; more than 16 get 14 and leave the blank queue, a scope of domain 0. */
+uint64_t gulberzan_open_iterator(uint64_t queue[GULBERZAN_QUEUE_WORDS], uint64_t domain, uint64_t first_attempt,
+                                 const uint64_t *bindings, size_t count);
+
+/* 1 if the words encode a well-formed record, else 0. */
+uint64_t gulberzan_well_formed(const uint64_t queue[GULBERZAN_QUEUE_WORDS]);
+
+/* Appends an undo number; case 1: token. Refused 1, 2, 3: the number comes back. */
+uint64_t gulberzan_register(uint64_t queue[GULBERZAN_QUEUE_WORDS], uint64_t number,
+                            uint64_t answer[GULBERZAN_ANSWER_WORDS]);
+
+/* Appends an undo number and moves a pending stage; case 1: token. Refused 1, 2, 4, 3: the number comes back. */
+uint64_t gulberzan_land(uint64_t queue[GULBERZAN_QUEUE_WORDS], uint64_t number,
+                        uint64_t answer[GULBERZAN_ANSWER_WORDS]);
+
+/* Hands out the newest undo number; case 1: Nothing; case 2: domain, token, attempt, undo number. Refused 1, 5. */
+uint64_t gulberzan_pop(uint64_t queue[GULBERZAN_QUEUE_WORDS], uint64_t answer[GULBERZAN_ANSWER_WORDS]);
+
+/* Settles what is out; ticket is domain, token, attempt; case 1. Refused 1, 15, 6, 7: the kept number comes back. */
+uint64_t gulberzan_complete(uint64_t queue[GULBERZAN_QUEUE_WORDS], const uint64_t ticket[GULBERZAN_TICKET_WORDS],
+                            uint64_t outcome, uint64_t kept, uint64_t answer[GULBERZAN_ANSWER_WORDS]);
+
+/* Renews a failed ticket; case 1: domain, token, new attempt. Refused 1, 8. */
+uint64_t gulberzan_retry(uint64_t queue[GULBERZAN_QUEUE_WORDS], uint64_t answer[GULBERZAN_ANSWER_WORDS]);
+
+/* Moves an idle stage if the target's members are the bindings' members; yes if it is pending afterwards. */
+uint64_t gulberzan_admit(uint64_t queue[GULBERZAN_QUEUE_WORDS], const uint64_t *target, size_t count,
+                         uint64_t answer[GULBERZAN_ANSWER_WORDS]);
+
+/* Admit with no target, which moves nothing; yes if the stage is pending. */
+uint64_t gulberzan_admit_without(uint64_t queue[GULBERZAN_QUEUE_WORDS], uint64_t answer[GULBERZAN_ANSWER_WORDS]);
+
+/* Ends a pending stage; yes if it was pending before. */
+uint64_t gulberzan_end(uint64_t queue[GULBERZAN_QUEUE_WORDS], uint64_t answer[GULBERZAN_ANSWER_WORDS]);
+
+/* Cancels the stage; case 1. */
+uint64_t gulberzan_cancel(uint64_t queue[GULBERZAN_QUEUE_WORDS], uint64_t answer[GULBERZAN_ANSWER_WORDS]);
+
+/* Yes if nothing waits and nothing is selected. */
+uint64_t gulberzan_is_empty(const uint64_t queue[GULBERZAN_QUEUE_WORDS], uint64_t answer[GULBERZAN_ANSWER_WORDS]);
+
+/* Yes if a ticket is out. */
+uint64_t gulberzan_is_issued(const uint64_t queue[GULBERZAN_QUEUE_WORDS], uint64_t answer[GULBERZAN_ANSWER_WORDS]);
+
+/* Yes in the phases Pending and Stopping. */
+uint64_t gulberzan_is_pending(const uint64_t queue[GULBERZAN_QUEUE_WORDS], uint64_t answer[GULBERZAN_ANSWER_WORDS]);
+
+/* Yes in the phases Ended and Closed. */
+uint64_t gulberzan_is_settled(const uint64_t queue[GULBERZAN_QUEUE_WORDS], uint64_t answer[GULBERZAN_ANSWER_WORDS]);
+
+/* Yes in the phases Stopping and Closed. */
+uint64_t gulberzan_is_cancelled(const uint64_t queue[GULBERZAN_QUEUE_WORDS], uint64_t answer[GULBERZAN_ANSWER_WORDS]);
+
+/* Yes if the selected ticket failed. */
+uint64_t gulberzan_has_failed(const uint64_t queue[GULBERZAN_QUEUE_WORDS], uint64_t answer[GULBERZAN_ANSWER_WORDS]);
+
+/* Yes if retry would not be refused. */
+uint64_t gulberzan_can_retry(const uint64_t queue[GULBERZAN_QUEUE_WORDS], uint64_t answer[GULBERZAN_ANSWER_WORDS]);
+
+/* Yes if nothing is selected, the stage is neither pending nor cancelled, and the target's members are the bindings'. */
+uint64_t gulberzan_can_finish(const uint64_t queue[GULBERZAN_QUEUE_WORDS], const uint64_t *target, size_t count,
+                              uint64_t answer[GULBERZAN_ANSWER_WORDS]);
+
+/* Case 1: the queue's domain. */
+uint64_t gulberzan_domain(const uint64_t queue[GULBERZAN_QUEUE_WORDS], uint64_t answer[GULBERZAN_ANSWER_WORDS]);
+
+/* The recorded calls answer as those above. One that changes the queue writes a row behind the *used rows of log, which has
+   words words, and raises *used by 1; without room it is refused with 17, last. Used rows that don't fit get 1, first. */
+
+/* Register, recorded. */
+uint64_t gulberzan_register_recorded(uint64_t queue[GULBERZAN_QUEUE_WORDS], uint64_t number, uint64_t *log,
+                                     size_t words, uint64_t *used, uint64_t answer[GULBERZAN_ANSWER_WORDS]);
+
+/* Land, recorded. */
+uint64_t gulberzan_land_recorded(uint64_t queue[GULBERZAN_QUEUE_WORDS], uint64_t number, uint64_t *log, size_t words,
+                                 uint64_t *used, uint64_t answer[GULBERZAN_ANSWER_WORDS]);
+
+/* Pop, recorded; Nothing writes no row. */
+uint64_t gulberzan_pop_recorded(uint64_t queue[GULBERZAN_QUEUE_WORDS], uint64_t *log, size_t words, uint64_t *used,
+                                uint64_t answer[GULBERZAN_ANSWER_WORDS]);
+
+/* Complete, recorded. */
+uint64_t gulberzan_complete_recorded(uint64_t queue[GULBERZAN_QUEUE_WORDS],
+                                     const uint64_t ticket[GULBERZAN_TICKET_WORDS], uint64_t outcome, uint64_t kept,
+                                     uint64_t *log, size_t words, uint64_t *used,
+                                     uint64_t answer[GULBERZAN_ANSWER_WORDS]);
+
+/* Retry, recorded. */
+uint64_t gulberzan_retry_recorded(uint64_t queue[GULBERZAN_QUEUE_WORDS], uint64_t *log, size_t words, uint64_t *used,
+                                  uint64_t answer[GULBERZAN_ANSWER_WORDS]);
+
+/* Admit with a target, recorded; no move writes no row. */
+uint64_t gulberzan_admit_recorded(uint64_t queue[GULBERZAN_QUEUE_WORDS], const uint64_t *target, size_t count,
+                                  uint64_t *log, size_t words, uint64_t *used,
+                                  uint64_t answer[GULBERZAN_ANSWER_WORDS]);
+
+/* Admit with no target, recorded; it never writes a row. */
+uint64_t gulberzan_admit_without_recorded(uint64_t queue[GULBERZAN_QUEUE_WORDS], uint64_t *log, size_t words,
+                                          uint64_t *used, uint64_t answer[GULBERZAN_ANSWER_WORDS]);
+
+/* End, recorded; no move writes no row. */
+uint64_t gulberzan_end_recorded(uint64_t queue[GULBERZAN_QUEUE_WORDS], uint64_t *log, size_t words, uint64_t *used,
+                                uint64_t answer[GULBERZAN_ANSWER_WORDS]);
+
+/* Cancel, recorded; no move writes no row. */
+uint64_t gulberzan_cancel_recorded(uint64_t queue[GULBERZAN_QUEUE_WORDS], uint64_t *log, size_t words,
+                                   uint64_t *used, uint64_t answer[GULBERZAN_ANSWER_WORDS]);
+
+/* Reads a log against an opening; case 1: rows, and queue is the end state. Refused 16: the bad row's place, and queue is the
+   state before it; 14: 0, and queue is blank; 1 for a kind above 1: queue stays. A scope's bindings are not looked at. */
+uint64_t gulberzan_read(uint64_t queue[GULBERZAN_QUEUE_WORDS], uint64_t kind, uint64_t domain, uint64_t first_attempt,
+                        const uint64_t *bindings, size_t count, const uint64_t *log, size_t words,
+                        uint64_t answer[GULBERZAN_ANSWER_WORDS]);
+
+#ifdef __cplusplus
+}
+#endif
+
+#endif
