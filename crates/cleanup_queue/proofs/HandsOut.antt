@@ -26,7 +26,7 @@ use Rattle.queue_steps.specs.declared.attempts.Popped.{Popped}
 use Rattle.queue_steps.specs.declared.attempts.Popped.the-variants.{Work}
 use Rattle.queue_steps.specs.declared.attempts.PopAnswer.{PopAnswer}
 use Rattle.cleanup_queue.specs.Promises.{isNone, handsOut, mayHandOut, HandedOut}
-use Rattle.cleanup_queue.proofs.ByCase.{all-occupied, chosen-full, Popping, pop-by}
+use Rattle.cleanup_queue.proofs.ByCase.{all-occupied, chosen-full, Popping, pop-by, work-parts}
 
 -- ---- exactly when
 module _ (q : Queue) where
@@ -64,9 +64,6 @@ module _ (q : Queue) where
       go true e false h false k = by-hands (record { sound = e; issued = h; failed = k }) (q .selection) refl
 
   -- ---- what
-  work-parts : (a t : Ticket) (m n : ℕ) → Work a m ≡ Work t n → (a ≡ t) × (m ≡ n)
-  work-parts a t m n e = (cc, cc)
-
   pub pop-hands : (t : Ticket) (number : ℕ) → popped q .answer ≡ Work t number → HandedOut q t number
   pop-hands =
       pop-by (λ (r : PopAnswer). (t : Ticket) (number : ℕ) → r .answer ≡ Work t number → HandedOut q t number) q

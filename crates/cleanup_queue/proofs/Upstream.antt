@@ -49,7 +49,7 @@ use Rattle.queue_stages.specs.declared.stages.Cancelled.{Cancelled}
 use Rattle.queue_stages.specs.declared.stages.CancelAnswer.{CancelAnswer}
 use Rattle.cleanup_queue.specs.Parts.{Fresh, SameOpening, Leaves, Pushes, TakesNext, TakesBack, Stays}
 use Rattle.cleanup_queue.specs.Runs.{Call, register, land, pop, complete, retry, admit, end, cancel, after, Rising}
-use Rattle.cleanup_queue.proofs.ByCase.{register-by, land-by, Popping, pop-by, complete-by, retry-by}
+use Rattle.cleanup_queue.proofs.ByCase.{register-by, land-by, Popping, pop-by, work-parts, complete-by, retry-by}
 use Rattle.cleanup_queue.proofs.Rises.{From, empty, next as later, lower, from-rising}
 use Rattle.cleanup_queue.proofs.Finish.{asked-yes, yes-asked, finish-means}
 
@@ -275,7 +275,7 @@ module _ (q : Queue) where
       (λ p s e full t number w. moved s t (slot q (s .token)) number (issuedTo q s (q .next)) w (f s (q .next) p full))
     where
       moved : (a t : Ticket) (m n : ℕ) (p : Queue) → Work a m ≡ Work t n → P a m p → P t n p
-      moved a t m n p e x = let u : a ≡ t = cc in let v : m ≡ n = cc in rw (u, v) at x
+      moved a t m n p e x = let w = work-parts a t m n e in rw (w .0, w .1) at x
 
   -- What is handed out was neither out nor failed before (Q143, Q144).
   pub pop-was-idle : (t : Ticket) (number : ℕ) → popped q .answer ≡ Work t number → (q .issued ≡ false) × (q .failed ≡ false)

@@ -35,7 +35,7 @@ use Rattle.queue_stages.specs.declared.stages.StageAnswer.{StageAnswer}
 use Rattle.queue_stages.specs.declared.stages.CancelAnswer.{CancelAnswer}
 use Rattle.cleanup_queue.specs.Promises.{handsOut}
 use Rattle.cleanup_queue.specs.Parts.{Appends, Drops}
-use Rattle.cleanup_queue.proofs.ByCase.{register-by, land-by, pop-by, Outside, complete-by, retry-by}
+use Rattle.cleanup_queue.proofs.ByCase.{register-by, land-by, pop-by, work-parts, Outside, complete-by, retry-by}
 
 -- ---- register and land append one
 module _ (q : Queue) (n : ℕ) (s : Sized q) where
@@ -79,11 +79,8 @@ module _ (q : Queue) where
       pop-by (Drops q) q
       (λ m _ t number e f. let z : _≡_ {A = ℕ} 0 1 = cc in absurd (omega arith))
       (λ t number e f. let z : _≡_ {A = ℕ} 0 1 = cc in absurd (omega arith))
-      (λ p e token n full room t number w f. fresh-waits token (q .next + 1) e n ∙ ap (λ (k : ℕ). waiting (issuedTo q (freshTicket q token) (q .next + 1)) ++ (k ∷ [])) (ap (λ (x : Ticket). x .token) (work-ticket (freshTicket q token) t (slot q token) number w)))
+      (λ p e token n full room t number w f. fresh-waits token (q .next + 1) e n ∙ ap (λ (k : ℕ). waiting (issuedTo q (freshTicket q token) (q .next + 1)) ++ (k ∷ [])) (ap (λ (x : Ticket). x .token) (work-parts (freshTicket q token) t (slot q token) number w .0)))
       (λ p s e full t number w f. let z : _≡_ {A = ℕ} 0 1 = cc in absurd (omega arith))
-    where
-      work-ticket : (a b : Ticket) (m n : ℕ) → Work a m ≡ Work b n → a ≡ b
-      work-ticket a b m n e = cc
 
   pub ready-pop-keeps : (t : Ticket) → q .selection ≡ Of t → waiting (popped q .queue) ≡ waiting q
   ready-pop-keeps t e =
