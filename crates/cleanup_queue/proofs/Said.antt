@@ -12,7 +12,7 @@ use Rattle.stage.proofs.Ways.{miss, if-by}
 use Rattle.queue_record.specs.Refusals.{noAttempt, noRetry, hollow}
 use Rattle.queue_record.specs.WellFormed.{wellFormed}
 use Rattle.queue_record.specs.Waiting.{waiting}
-use Rattle.queue_record.specs.Newest.{newest}
+use Rattle.queue_record.specs.Newest.{newest, isThere}
 use Rattle.queue_record.specs.Openings.{blank, iteratorOpened}
 use Rattle.queue_record.specs.declared.openings.Opened.{Opened}
 use Rattle.queue_record.specs.declared.openings.OpenAnswer.{OpenAnswer}
@@ -40,7 +40,7 @@ use Rattle.queue_stages.specs.declared.stages.StageAnswer.{StageAnswer}
 use Rattle.queue_stages.specs.declared.stages.CancelAnswer.{CancelAnswer}
 use Rattle.queue_stages.specs.declared.stages.Cancelled.{Cancelled}
 use Rattle.cleanup_queue.specs.Answers.{Said, says, openedSays, registeredSays, poppedSays, completedSays, retriedSays, toldSays, cancelledSays, domainSays}
-use Rattle.cleanup_queue.specs.Orders.{due, firstSaid, RefusedAs, openingOrder, registerOrder, landOrder, freshToken, chosenToken, isThere, isHollow, popOrder, freshValues, workValues, completeOrder, retryOrder, renewedValues, brokenOnly, bit, Tells}
+use Rattle.cleanup_queue.specs.Orders.{due, firstSaid, RefusedAs, openingOrder, registerOrder, landOrder, freshToken, chosenToken, isHollow, popOrder, freshValues, workValues, completeOrder, retryOrder, renewedValues, brokenOnly, bit, Tells}
 use Rattle.cleanup_queue.proofs.ByCase.{register-cases, register-by, land-cases, land-by, pop-cases, pop-by, complete-cases, complete-by, retry-cases, retry-by}
 
 -- one test more in front: what it refuses with is said exactly if it holds

@@ -16,7 +16,8 @@ use Rattle.stage.specs.Phases.{next, isPending, isSettled, isCancelled}
 use Rattle.stage.specs.declared.phases.Phase.{Phase}
 use Rattle.stage.specs.declared.phases.Phase.the-variants.{Idle, Pending, Ended, Stopping, Closed}
 use Rattle.stage.specs.declared.phases.Event.the-variants.{Land, End, Cancel}
-use Rattle.stage.proofs.Ways.{hit, miss, pass, stop, either, other, and-left, and-right, clash, if-by}
+use Rattle.stage.proofs.Ways.{hit, miss, pass, stop, either, other, and-left, clash, if-by}
+use Rattle.queue_record.specs.Refusals.{notOut}
 use Rattle.queue_record.specs.Record.{Sized}
 use Rattle.queue_record.specs.WellFormed.{allZero, wellFormed}
 use Rattle.queue_record.specs.Waiting.{occupied, without, others, waiting}
@@ -29,9 +30,9 @@ use Rattle.queue_record.specs.declared.record.Selection.the-variants.{Free, Of}
 use Rattle.queue_record.specs.declared.record.Queue.{Queue}
 use Rattle.queue_record.proofs.Zeros.{full-below}
 use Rattle.queue_record.proofs.Fit.{fit, free-no-marks, issued-not-failed, failed-not-issued, issued-empty}
-use Rattle.queue_record.proofs.Waiting.{by-first}
+use Rattle.queue_record.proofs.Waiting.{by-first, none-occupied}
 use Rattle.queue_steps.specs.Births.{registered, landed}
-use Rattle.queue_steps.specs.Attempts.{slot, issuedTo, freshTicket, popped, selects, isOut, keepsOnDone, completed, retryAllowed, renewed, retriedBy, retried}
+use Rattle.queue_steps.specs.Attempts.{slot, issuedTo, freshTicket, popped, sameTicket, selects, isOut, keepsOnDone, refusedComplete, completed, retryAllowed, renewed, retriedBy, retried}
 use Rattle.queue_steps.specs.declared.births.Registered.the-variants.{Token}
 use Rattle.queue_steps.specs.declared.births.RegisterAnswer.{RegisterAnswer}
 use Rattle.queue_steps.specs.declared.attempts.Popped.the-variants.{Work}
@@ -152,11 +153,7 @@ module _ (q : Queue) (k : ℕ) where
 -- ---- the openings
 -- nothing selected and every place 0: nothing waits
 bare-waits : (q : Queue) → q .selection ≡ Free → allZero (q .slots) ≡ true → waiting q ≡ []
-bare-waits q e z = ap (λ (s : Selection). others s (occupied 0 (q .slots))) e ∙ none 0 (q .slots) z
-  where
-    none : (k : ℕ) (xs : List ℕ) → allZero xs ≡ true → occupied k xs ≡ []
-    none k [] h = refl
-    none k (x ∷ xs) h = hit _ (and-left (eqb x 0) (allZero xs) h) ∙ none (suc k) xs (and-right (eqb x 0) (allZero xs) h)
+bare-waits q e z = ap (λ (s : Selection). others s (occupied 0 (q .slots))) e ∙ none-occupied 0 (q .slots) z
 
 module _ (domain first : ℕ) where
   scope-bare : (scopeOf domain first .selection ≡ Free) × (allZero (scopeOf domain first .slots) ≡ true)
@@ -353,6 +350,23 @@ module _ (q : Queue) (t : Ticket) (outcome kept : ℕ) where
       (λ o l k _. if-by (TakesBack q t outcome kept) (eqb outcome 0) _ _
       (λ e. let z : outcome ≡ 0 = eqb-true outcome 0 e in (refl, refl, refl, issued-not-failed q (o .sound) (o .issued) ∙ sym (ne-eqb outcome 1 (λ p. omega arith)), ((λ p. absurd (omega arith)), (λ _. refl))))
       (λ e. let n : outcome ≡ 0 → ⊥ = eqb-false outcome 0 e in (refl, refl, refl, sym (eq-eqb outcome 1 (omega arith)), ((λ _. o .selected), (λ p. absurd (n p))))))
+
+-- A reply to an earlier attempt is refused with 6.
+pub late-reply : (q : Queue) (s t : Ticket) (outcome kept : ℕ) → wellFormed q ≡ true → q .selection ≡ Of s → t .attempt < s .attempt → outcome ≤ 1 → completed q t outcome kept ≡ refusedComplete q notOut kept
+unfolding completed
+late-reply q s t outcome kept h e l o = miss _ (ap not h) ∙ (miss _ (le-ltb 1 outcome o) ∙ hit _ (ap not (apart (q .issued))))
+  where
+    differ : sameTicket s t ≡ false
+    differ = go (eqb (s .domain) (t .domain)) (eqb (s .token) (t .token))
+      where
+        go : (a b : Bool) → (a && (b && eqb (s .attempt) (t .attempt))) ≡ false
+        go false b = refl
+        go true false = refl
+        go true true = ne-eqb (s .attempt) (t .attempt) (λ p. omega arith)
+
+    apart : (i : Bool) → isOut i (q .selection) t ≡ false
+    apart false = refl
+    apart true = ap (λ (x : Selection). selects x t) e ∙ differ
 
 -- ---- retry
 module _ (q : Queue) where

@@ -25,8 +25,6 @@ use Rattle.queue_steps.specs.Births.{grown, registered, landed}
 use Rattle.queue_steps.specs.Attempts.{slot, issuedTo, freshTicket, popped, keepsOnDone, tookBack, completed, retried}
 use Rattle.queue_steps.specs.declared.births.Registered.{Registered}
 use Rattle.queue_steps.specs.declared.births.Registered.the-variants.{Token}
-use Rattle.queue_steps.specs.declared.births.RegisterAnswer.{RegisterAnswer}
-use Rattle.queue_steps.specs.declared.attempts.Popped.the-variants.{Work}
 use Rattle.queue_steps.specs.declared.attempts.PopAnswer.{PopAnswer}
 use Rattle.queue_steps.specs.declared.attempts.CompleteAnswer.{CompleteAnswer}
 use Rattle.queue_steps.specs.declared.attempts.RetryAnswer.{RetryAnswer}

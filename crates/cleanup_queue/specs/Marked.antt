@@ -44,20 +44,20 @@ abbrev pub spent : Queue
 spent = completed lastOut (ticket 0 2) 1 0 .queue
 
 -- W10's queues: 9 registered, its last attempt out, and Failed keeping 9
-abbrev pub high : Queue
+abbrev high : Queue
 high = registered (scopeOf 0 18446744073709551614) 9 .queue
 
-abbrev pub highOut : Queue
+abbrev highOut : Queue
 highOut = popped high .queue
 
-abbrev pub atTheTop : Queue
+abbrev atTheTop : Queue
 atTheTop = completed highOut (ticket 0 18446744073709551614) 1 9 .queue
 
 -- W11's queues
-abbrev pub iterator : Queue
+abbrev iterator : Queue
 iterator = iteratorOpened 0 0 (4 ∷ 9 ∷ []) .queue
 
-abbrev pub pending : Queue
+abbrev pending : Queue
 pending = admitted iterator (matches iterator (9 ∷ 4 ∷ 9 ∷ [])) .queue
 
 -- a queue after n registers of 5

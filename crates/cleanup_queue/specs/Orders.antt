@@ -10,7 +10,7 @@ use Rattle.stage.specs.Phases.{isPending}
 use Rattle.queue_record.specs.Refusals.{done, broken, badNumber, noSlot, notPending, noAttempt, notOut, keptOnDone, noRetry, hollow, badOutcome, tooManyBindings}
 use Rattle.queue_record.specs.WellFormed.{wellFormed}
 use Rattle.queue_record.specs.Waiting.{waiting}
-use Rattle.queue_record.specs.Newest.{newest}
+use Rattle.queue_record.specs.Newest.{newest, isThere}
 use Rattle.queue_record.specs.declared.search.Found.{Found}
 use Rattle.queue_record.specs.declared.search.Found.the-variants.{At, Missing}
 use Rattle.queue_record.specs.declared.record.Ticket.{Ticket}
@@ -77,10 +77,6 @@ chosenToken true failed s ks = Missing
 chosenToken false true s ks = Missing
 chosenToken false false (Of t) ks = At (t .token)
 chosenToken false false Free ks = newest ks
-
-abbrev pub isThere : Found → Bool
-isThere Missing = false
-isThere (At k) = true
 
 abbrev pub isHollow : Queue → Found → Bool
 isHollow q Missing = false

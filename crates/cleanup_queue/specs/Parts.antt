@@ -1,8 +1,8 @@
 -- What becomes of each part of a record, in an opening and in each call: together the laws name every part for every call
 use Prim.Native.Nat.{ℕ, _+_}
 use mathlib.Core.Path.{_≡_}
-use mathlib.Core.Bool.{Bool, true, false}
-use mathlib.Core.List.{List, [], _∷_, _++_}
+use mathlib.Core.Bool.{false}
+use mathlib.Core.List.{[], _∷_, _++_}
 use lib.Dec.{eqb}
 use lib.ListN.{set, take}
 use Rattle.stage.specs.Phases.{isPending}
