@@ -1,4 +1,4 @@
--- Each call by its cases: refused with the record as it was, or done under what its tests showed
+-- Each call by its cases: refused, with a number other than 0 and the record as it was, or done under what its tests showed
 use Prim.Native.Nat.{ℕ, _+_, _<_, _≤_}
 use mathlib.Core.Path.{_≡_, refl, sym, ap, _∙_}
 use mathlib.Core.Bool.{true, false, not}
@@ -24,6 +24,7 @@ use Rattle.queue_record.specs.declared.record.Queue.{Queue}
 use Rattle.queue_steps.specs.Births.{refusedBirth, grown, born, registered, landed}
 use Rattle.queue_steps.specs.Attempts.{noMore, slot, refusedPop, nothing, handed, freshTicket, freshAt, poppedBy, popped, refusedComplete, isOut, keepsOnDone, answered, completed, refusedRetry, retryAllowed, again, retriedBy, retried}
 use Rattle.queue_steps.specs.declared.births.RegisterAnswer.{RegisterAnswer}
+use Rattle.queue_steps.specs.declared.attempts.Popped.the-variants.{Work}
 use Rattle.queue_steps.specs.declared.attempts.PopAnswer.{PopAnswer}
 use Rattle.queue_steps.specs.declared.attempts.Completed.{Completed}
 use Rattle.queue_steps.specs.declared.attempts.CompleteAnswer.{CompleteAnswer}
@@ -31,23 +32,39 @@ use Rattle.queue_steps.specs.declared.attempts.RetryAnswer.{RetryAnswer}
 use Rattle.queue_steps.proofs.Out.{out-issued, out-selected}
 
 -- ---- register and land
-module _ (P : RegisterAnswer → Type 0) (q : Queue) (number : ℕ) (refused : (n : ℕ) → P (refusedBirth q n number)) where
-  pub register-by : (wellFormed q ≡ true → (number ≡ 0 → ⊥) → q .count < 64 → P (born q (grown q number))) → P (registered q number)
+module _ (P : RegisterAnswer → Type 0) (q : Queue) (number : ℕ) where
+  abbrev pub Unborn : Type 0
+  Unborn = (n : ℕ) → (n ≡ 0 → ⊥) → P (refusedBirth q n number)
+
+  abbrev pub Registers : Type 0
+  Registers = wellFormed q ≡ true → (number ≡ 0 → ⊥) → q .count < 64 → P (born q (grown q number))
+
+  abbrev pub Lands : Type 0
+  Lands = wellFormed q ≡ true → (number ≡ 0 → ⊥) → isPending (q .phase) ≡ true → q .count < 64 → P (born q (withPhase (grown q number) (next (q .phase) Land)))
+
+  pub register-cases : Unborn → Registers → P (registered q number)
   unfolding registered
-  register-by taken =
-      if-by P (not (wellFormed q)) _ _ (λ _. refused broken) (λ w.
-      if-by P (eqb number 0) _ _ (λ _. refused badNumber) (λ z.
-      if-by P (leb 64 (q .count)) _ _ (λ _. refused noSlot) (λ l.
+  register-cases refused taken =
+      if-by P (not (wellFormed q)) _ _ (λ _. refused broken (λ e. omega arith)) (λ w.
+      if-by P (eqb number 0) _ _ (λ _. refused badNumber (λ e. omega arith)) (λ z.
+      if-by P (leb 64 (q .count)) _ _ (λ _. refused noSlot (λ e. omega arith)) (λ l.
       taken (not-false _ w) (eqb-false _ _ z) (leb-false _ _ l))))
 
-  pub land-by : (wellFormed q ≡ true → (number ≡ 0 → ⊥) → isPending (q .phase) ≡ true → q .count < 64 → P (born q (withPhase (grown q number) (next (q .phase) Land)))) → P (landed q number)
+  pub land-cases : Unborn → Lands → P (landed q number)
   unfolding landed
-  land-by taken =
-      if-by P (not (wellFormed q)) _ _ (λ _. refused broken) (λ w.
-      if-by P (eqb number 0) _ _ (λ _. refused badNumber) (λ z.
-      if-by P (not (isPending (q .phase))) _ _ (λ _. refused notPending) (λ p.
-      if-by P (leb 64 (q .count)) _ _ (λ _. refused noSlot) (λ l.
+  land-cases refused taken =
+      if-by P (not (wellFormed q)) _ _ (λ _. refused broken (λ e. omega arith)) (λ w.
+      if-by P (eqb number 0) _ _ (λ _. refused badNumber (λ e. omega arith)) (λ z.
+      if-by P (not (isPending (q .phase))) _ _ (λ _. refused notPending (λ e. omega arith)) (λ p.
+      if-by P (leb 64 (q .count)) _ _ (λ _. refused noSlot (λ e. omega arith)) (λ l.
       taken (not-false _ w) (eqb-false _ _ z) (not-false _ p) (leb-false _ _ l)))))
+
+  -- whatever the refusal's number is
+  pub register-by : ((n : ℕ) → P (refusedBirth q n number)) → Registers → P (registered q number)
+  register-by refused = register-cases (λ n _. refused n)
+
+  pub land-by : ((n : ℕ) → P (refusedBirth q n number)) → Lands → P (landed q number)
+  land-by refused = land-cases (λ n _. refused n)
 
 -- ---- pop
 -- what is known where pop goes past its first tests
@@ -64,15 +81,19 @@ all-occupied q e = ap (λ (s : Selection). others s (occupied 0 (q .slots))) e
 pub chosen-full : (q : Queue) → q .selection ≡ Free → (token : ℕ) → newest (waiting q) ≡ At token → slot q token ≡ 0 → ⊥
 chosen-full q e token n = newest-full (q .slots) token (ap newest (sym (all-occupied q e)) ∙ n)
 
+abbrev pub FreshCase : (PopAnswer → Type 0) → Queue → Type 0
+FreshCase P q = Popping q → q .selection ≡ Free → (token : ℕ) → newest (waiting q) ≡ At token → (slot q token ≡ 0 → ⊥) → q .next < noMore → P (handed q (freshTicket q token) (slot q token) (q .next + 1))
+
+abbrev pub ReadyCase : (PopAnswer → Type 0) → Queue → Type 0
+ReadyCase P q = Popping q → (t : Ticket) → q .selection ≡ Of t → (slot q (t .token) ≡ 0 → ⊥) → P (handed q t (slot q (t .token)) (q .next))
+
 -- pop, whose refusals are never 9
-module _ (P : PopAnswer → Type 0) (q : Queue) (refused : (n : ℕ) → (n ≡ hollow → ⊥) → P (refusedPop q n)) (idle : P (nothing q))
-    (fresh : Popping q → q .selection ≡ Free → (token : ℕ) → newest (waiting q) ≡ At token → (slot q token ≡ 0 → ⊥) → q .next < noMore → P (handed q (freshTicket q token) (slot q token) (q .next + 1)))
-    (ready : Popping q → (t : Ticket) → q .selection ≡ Of t → (slot q (t .token) ≡ 0 → ⊥) → P (handed q t (slot q (t .token)) (q .next))) where
+module _ (P : PopAnswer → Type 0) (q : Queue) (refused : (n : ℕ) → (n ≡ hollow → ⊥) → (n ≡ 0 → ⊥) → P (refusedPop q n)) (idle : P (nothing q)) (fresh : FreshCase P q) (ready : ReadyCase P q) where
   by-found : Popping q → q .selection ≡ Free → (f : Found) → newest (waiting q) ≡ f → P (freshAt q f)
   by-found p e Missing n = idle
   by-found p e (At token) n =
       if-by P (eqb (slot q token) 0) _ _ (λ z. absurd (chosen-full q e token n (eqb-true _ _ z))) (λ z.
-      if-by P (leb noMore (q .next)) _ _ (λ _. refused noAttempt (λ h. omega arith)) (λ l.
+      if-by P (leb noMore (q .next)) _ _ (λ _. refused noAttempt (λ h. omega arith) (λ h. omega arith)) (λ l.
       fresh p e token n (eqb-false _ _ z) (leb-false _ _ l)))
 
   by-selection : Popping q → (s : Selection) → q .selection ≡ s → P (poppedBy q s)
@@ -80,13 +101,20 @@ module _ (P : PopAnswer → Type 0) (q : Queue) (refused : (n : ℕ) → (n ≡ 
   by-selection p (Of t) e =
       if-by P (eqb (slot q (t .token)) 0) _ _ (λ z. absurd (ready-occupied q t (p .sound) e (p .issued) (p .failed) (eqb-true _ _ z))) (λ z. ready p t e (eqb-false _ _ z))
 
-  pub pop-by : P (popped q)
+  pub pop-cases : P (popped q)
   unfolding popped
-  pop-by =
-      if-by P (not (wellFormed q)) _ _ (λ _. refused broken (λ h. omega arith)) (λ w.
+  pop-cases =
+      if-by P (not (wellFormed q)) _ _ (λ _. refused broken (λ h. omega arith) (λ h. omega arith)) (λ w.
       if-by P (q .issued) _ _ (λ _. idle) (λ i.
       if-by P (q .failed) _ _ (λ _. idle) (λ f.
       by-selection (record { sound = not-false _ w; issued = i; failed = f }) (q .selection) refl)))
+
+pub pop-by : (P : PopAnswer → Type 0) (q : Queue) → ((n : ℕ) → (n ≡ hollow → ⊥) → P (refusedPop q n)) → P (nothing q) → FreshCase P q → ReadyCase P q → P (popped q)
+pop-by P q refused = pop-cases P q (λ n h _. refused n h)
+
+-- work is one ticket with one number
+pub work-parts : (s t : Ticket) (m n : ℕ) → Work s m ≡ Work t n → (s ≡ t) × (m ≡ n)
+work-parts s t m n e = (cc, cc)
 
 -- ---- complete
 abbrev pub settled : Queue → CompleteAnswer
@@ -98,23 +126,34 @@ pub record Outside (q : Queue) (t : Ticket) : Type 0 where
   pub issued : q .issued ≡ true
   pub selected : q .selection ≡ Of t
 
-module _ (P : CompleteAnswer → Type 0) (q : Queue) (t : Ticket) (outcome kept : ℕ) (refused : (n : ℕ) → P (refusedComplete q n kept)) where
-  pub complete-by : (Outside q t → outcome ≤ 1 → keepsOnDone outcome kept ≡ false → P (settled (answered q (t .token) outcome kept))) → P (completed q t outcome kept)
+module _ (P : CompleteAnswer → Type 0) (q : Queue) (t : Ticket) (outcome kept : ℕ) where
+  abbrev pub Settles : Type 0
+  Settles = Outside q t → outcome ≤ 1 → keepsOnDone outcome kept ≡ false → P (settled (answered q (t .token) outcome kept))
+
+  pub complete-cases : ((n : ℕ) → (n ≡ 0 → ⊥) → P (refusedComplete q n kept)) → Settles → P (completed q t outcome kept)
   unfolding completed
-  complete-by taken =
-      if-by P (not (wellFormed q)) _ _ (λ _. refused broken) (λ w.
-      if-by P (ltb 1 outcome) _ _ (λ _. refused badOutcome) (λ o.
-      if-by P (not (isOut (q .issued) (q .selection) t)) _ _ (λ _. refused notOut) (λ u.
-      if-by P (keepsOnDone outcome kept) _ _ (λ _. refused keptOnDone) (λ k.
+  complete-cases refused taken =
+      if-by P (not (wellFormed q)) _ _ (λ _. refused broken (λ e. omega arith)) (λ w.
+      if-by P (ltb 1 outcome) _ _ (λ _. refused badOutcome (λ e. omega arith)) (λ o.
+      if-by P (not (isOut (q .issued) (q .selection) t)) _ _ (λ _. refused notOut (λ e. omega arith)) (λ u.
+      if-by P (keepsOnDone outcome kept) _ _ (λ _. refused keptOnDone (λ e. omega arith)) (λ k.
       taken (record { sound = not-false _ w; issued = out-issued (q .issued) (q .selection) t (not-false _ u); selected = out-selected (q .issued) (q .selection) t (not-false _ u) }) (ltb-false _ _ o) k))))
 
--- ---- retry
-module _ (P : RetryAnswer → Type 0) (q : Queue) (refused : (n : ℕ) → P (refusedRetry q n))
-    (taken : wellFormed q ≡ true → (t : Ticket) → q .selection ≡ Of t → retryAllowed q (Of t) ≡ true → P (again q t)) where
-  by-selected : wellFormed q ≡ true → (s : Selection) → q .selection ≡ s → P (retriedBy q s)
-  by-selected w Free e = refused noRetry
-  by-selected w (Of t) e = if-by P (not (retryAllowed q (Of t))) _ _ (λ _. refused noRetry) (λ a. taken w t e (not-false _ a))
+  pub complete-by : ((n : ℕ) → P (refusedComplete q n kept)) → Settles → P (completed q t outcome kept)
+  complete-by refused = complete-cases (λ n _. refused n)
 
-  pub retry-by : P (retried q)
+-- ---- retry
+abbrev pub AgainCase : (RetryAnswer → Type 0) → Queue → Type 0
+AgainCase P q = wellFormed q ≡ true → (t : Ticket) → q .selection ≡ Of t → retryAllowed q (Of t) ≡ true → P (again q t)
+
+module _ (P : RetryAnswer → Type 0) (q : Queue) (refused : (n : ℕ) → (n ≡ 0 → ⊥) → P (refusedRetry q n)) (taken : AgainCase P q) where
+  by-selected : wellFormed q ≡ true → (s : Selection) → q .selection ≡ s → P (retriedBy q s)
+  by-selected w Free e = refused noRetry (λ z. omega arith)
+  by-selected w (Of t) e = if-by P (not (retryAllowed q (Of t))) _ _ (λ _. refused noRetry (λ z. omega arith)) (λ a. taken w t e (not-false _ a))
+
+  pub retry-cases : P (retried q)
   unfolding retried
-  retry-by = if-by P (not (wellFormed q)) _ _ (λ _. refused broken) (λ w. by-selected (not-false _ w) (q .selection) refl)
+  retry-cases = if-by P (not (wellFormed q)) _ _ (λ _. refused broken (λ z. omega arith)) (λ w. by-selected (not-false _ w) (q .selection) refl)
+
+pub retry-by : (P : RetryAnswer → Type 0) (q : Queue) → ((n : ℕ) → P (refusedRetry q n)) → AgainCase P q → P (retried q)
+retry-by P q refused = retry-cases P q (λ n _. refused n)

@@ -12,7 +12,7 @@ use Rattle.stage.specs.declared.phases.Phase.the-variants.{Ended}
 use Rattle.stage.proofs.Ways.{hit, miss}
 use Rattle.queue_record.specs.WellFormed.{wellFormed}
 use Rattle.queue_record.specs.Newest.{newest}
-use Rattle.queue_record.specs.Openings.{scopeOf, iteratorOf}
+use Rattle.queue_record.specs.Openings.{scopeOf, iteratorOf, iteratorOpened}
 use Rattle.queue_record.specs.declared.record.Kind.the-variants.{Scope}
 use Rattle.queue_record.specs.declared.record.Ticket.{Ticket}
 use Rattle.queue_record.specs.declared.record.Selection.{Selection}
@@ -79,9 +79,13 @@ w3 : poppedSays (popped out .answer) ≡ says 0 []
 unfolding wellFormed popped
 w3 = ap (λ (q : Queue). poppedSays (popped q .answer)) out-is
 
-w4 : poppedSays (popped failed .answer) ≡ says 0 []
+w4-failed : completedSays (completed out (ticket 1 0) 1 72 .answer) ≡ says 0 []
+unfolding wellFormed completed
+w4-failed = ap (λ (q : Queue). completedSays (completed q (ticket 1 0) 1 72 .answer)) out-is
+
+w4-pop : poppedSays (popped failed .answer) ≡ says 0 []
 unfolding wellFormed popped
-w4 = ap (λ (q : Queue). poppedSays (popped q .answer)) failed-is
+w4-pop = ap (λ (q : Queue). poppedSays (popped q .answer)) failed-is
 
 w5-retry : retriedSays (retried failed .answer) ≡ says 0 (0 ∷ 1 ∷ 1 ∷ [])
 unfolding wellFormed retried
@@ -106,6 +110,10 @@ w8-done = ap (λ (q : Queue). completedSays (completed q (ticket 1 1) 0 0 .answe
 w8-pop : poppedSays (popped last .answer) ≡ says 0 (0 ∷ 0 ∷ 2 ∷ 71 ∷ [])
 unfolding wellFormed newest popped
 w8-pop = ap (λ (q : Queue). poppedSays (popped q .answer)) last-is
+
+w9-failed : completedSays (completed lastOut (ticket 0 2) 1 0 .answer) ≡ says 0 []
+unfolding wellFormed completed
+w9-failed = ap (λ (q : Queue). completedSays (completed q (ticket 0 2) 1 0 .answer)) lastOut-is
 
 w9-retry : retriedSays (retried spent .answer) ≡ says 8 []
 unfolding wellFormed retried
@@ -152,5 +160,5 @@ rows : {x y : Said} {xs ys : List Said} → x ≡ y → xs ≡ ys → x ∷ xs �
 rows e f = rw (e, f)
 
 pub marked-cases : defined table ≡ written table
-unfolding sameSet wellFormed newest scopeOf iteratorOf registered landed popped completed retried admitted
-marked-cases = rows w1 (rows w2 (rows w3 (rows w4 (rows w5-retry (rows w5-pop (rows w6 (rows w7 (rows w8-done (rows w8-pop (rows w9-retry (rows w9-pop (rows refl (rows refl (rows refl (rows refl (rows w12-last (rows w12-full refl)))))))))))))))))
+unfolding sameSet wellFormed newest scopeOf iteratorOf iteratorOpened registered landed popped completed retried admitted
+marked-cases = rows w1 (rows w2 (rows w3 (rows w4-failed (rows w4-pop (rows w5-retry (rows w5-pop (rows w6 (rows w7 (rows w8-done (rows w8-pop (rows w9-failed (rows w9-retry (rows w9-pop (rows refl (rows refl (rows refl (rows refl (rows refl (rows refl (rows refl (rows w12-last (rows w12-full refl))))))))))))))))))))))

@@ -1,17 +1,17 @@
--- When can_finish says yes, what a failed and emptied slot blocks, and late replies
-use Prim.Native.Nat.{ℕ, _<_, _≤_}
+-- When can_finish says yes, and what a failed and emptied slot blocks
+use Prim.Native.Nat.{ℕ}
 use mathlib.Core.Path.{_≡_, refl, ap, _∙_}
 use mathlib.Core.Bool.{Bool, true, false, not, _&&_}
 use mathlib.Core.List.{List, []}
 use native.Mathlib.Omega.{arith}
-use borrow.Author.Tests.{ne-eqb, le-ltb, not-true}
+use borrow.Author.Tests.{not-true}
 use lib.Dec.{eqb}
 use Rattle.stage.specs.Choice.{if_then_else_}
 use Rattle.stage.specs.Bindings.{sameSet}
 use Rattle.stage.specs.Phases.{isPending, isCancelled}
 use Rattle.stage.proofs.Ways.{hit, miss, pass, stop, and-left, and-right, clash}
 use Rattle.stage.proofs.Sets.{same-means, means-same}
-use Rattle.queue_record.specs.Refusals.{notOut, noRetry}
+use Rattle.queue_record.specs.Refusals.{noRetry}
 use Rattle.queue_record.specs.WellFormed.{wellFormed}
 use Rattle.queue_record.specs.Openings.{scopeOf}
 use Rattle.queue_record.specs.Waiting.{waiting}
@@ -20,7 +20,7 @@ use Rattle.queue_record.specs.declared.record.Selection.{Selection}
 use Rattle.queue_record.specs.declared.record.Selection.the-variants.{Free, Of}
 use Rattle.queue_record.specs.declared.record.Queue.{Queue}
 use Rattle.queue_record.proofs.Fit.{failed-not-issued}
-use Rattle.queue_steps.specs.Attempts.{slot, nothing, popped, sameTicket, selects, isOut, refusedComplete, completed, refusedRetry, retriedBy, retried}
+use Rattle.queue_steps.specs.Attempts.{slot, nothing, popped, refusedRetry, retriedBy, retried}
 use Rattle.queue_questions.specs.Questions.{yesOrNo, asked, committed, finishable, canFinishTold, nothingLeft, isEmptyTold}
 use Rattle.queue_questions.specs.declared.questions.Told.the-variants.{Yes, No, Refused}
 use Rattle.cleanup_queue.specs.Promises.{Finishable}
@@ -85,20 +85,3 @@ module _ (q : Queue) (t : Ticket) (h : wellFormed q ≡ true) (e : q .selection 
   pub emptied-no-retry : slot q (t .token) ≡ 0 → retried q ≡ refusedRetry q noRetry
   unfolding retried
   emptied-no-retry z = miss _ (ap not h) ∙ (ap (retriedBy q) e ∙ hit _ (ap not (pass _ f ∙ stop _ (ap (λ (n : ℕ). not (eqb n 0)) z))))
-
--- ---- a reply to an earlier attempt
-pub late-reply : (q : Queue) (s t : Ticket) (outcome kept : ℕ) → wellFormed q ≡ true → q .selection ≡ Of s → t .attempt < s .attempt → outcome ≤ 1 → completed q t outcome kept ≡ refusedComplete q notOut kept
-unfolding completed
-late-reply q s t outcome kept h e l o = miss _ (ap not h) ∙ (miss _ (le-ltb 1 outcome o) ∙ hit _ (ap not (apart (q .issued))))
-  where
-    differ : sameTicket s t ≡ false
-    differ = go (eqb (s .domain) (t .domain)) (eqb (s .token) (t .token))
-      where
-        go : (a b : Bool) → (a && (b && eqb (s .attempt) (t .attempt))) ≡ false
-        go false b = refl
-        go true false = refl
-        go true true = ne-eqb (s .attempt) (t .attempt) (λ p. omega arith)
-
-    apart : (i : Bool) → isOut i (q .selection) t ≡ false
-    apart false = refl
-    apart true = ap (λ (x : Selection). selects x t) e ∙ differ

@@ -25,8 +25,9 @@ use Rattle.queue_steps.specs.Attempts.{noMore, slot, refusedPop, nothing, hande
 use Rattle.queue_steps.specs.declared.attempts.Popped.{Popped}
 use Rattle.queue_steps.specs.declared.attempts.Popped.the-variants.{Work}
 use Rattle.queue_steps.specs.declared.attempts.PopAnswer.{PopAnswer}
+use Rattle.queue_questions.proofs.Left.{newest-left}
 use Rattle.cleanup_queue.specs.Promises.{isNone, handsOut, mayHandOut, HandedOut}
-use Rattle.cleanup_queue.proofs.ByCase.{all-occupied, chosen-full, Popping, pop-by}
+use Rattle.cleanup_queue.proofs.ByCase.{all-occupied, chosen-full, Popping, pop-by, work-parts}
 
 -- ---- exactly when
 module _ (q : Queue) where
@@ -34,16 +35,11 @@ module _ (q : Queue) where
   abbrev rest : Selection → List ℕ → Bool
   rest s ks = isSelected s || (not (isNone ks) && ltb (q .next) noMore)
 
-  some-left : (ks : List ℕ) (token : ℕ) → newest ks ≡ At token → not (isNone ks) ≡ true
-  unfolding newest
-  some-left [] token h = let z : _≡_ {A = ℕ} 0 1 = cc in absurd (omega arith)
-  some-left (k ∷ ks) token h = refl
-
   fresh-hands : q .selection ≡ Free → (f : Found) → newest (waiting q) ≡ f → handsOut (freshAt q f .answer) ≡ (not (isNone (waiting q)) && ltb (q .next) noMore)
   fresh-hands e Missing n = sym (stop _ (ap (λ (ks : List ℕ). not (isNone ks)) (newest-none (waiting q) n)))
   fresh-hands e (At token) n =
       ap (λ (r : PopAnswer). handsOut (r .answer)) (miss _ (ne-eqb (slot q token) 0 (chosen-full q e token n)))
-      ∙ (room (leb noMore (q .next)) refl ∙ sym (pass _ (some-left (waiting q) token n)))
+      ∙ (room (leb noMore (q .next)) refl ∙ sym (pass _ (ap not (newest-left (waiting q) token n))))
     where
       room : (b : Bool) → leb noMore (q .next) ≡ b → handsOut ((if b then refusedPop q noAttempt else handed q (freshTicket q token) (slot q token) (q .next + 1)) .answer) ≡ ltb (q .next) noMore
       room true h = sym (le-ltb (q .next) noMore (leb-true noMore (q .next) h))
@@ -64,9 +60,6 @@ module _ (q : Queue) where
       go true e false h false k = by-hands (record { sound = e; issued = h; failed = k }) (q .selection) refl
 
   -- ---- what
-  work-parts : (a t : Ticket) (m n : ℕ) → Work a m ≡ Work t n → (a ≡ t) × (m ≡ n)
-  work-parts a t m n e = (cc, cc)
-
   pub pop-hands : (t : Ticket) (number : ℕ) → popped q .answer ≡ Work t number → HandedOut q t number
   pop-hands =
       pop-by (λ (r : PopAnswer). (t : Ticket) (number : ℕ) → r .answer ≡ Work t number → HandedOut q t number) q

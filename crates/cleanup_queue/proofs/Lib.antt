@@ -6,6 +6,7 @@ pub mod HandsOut
 pub mod Rises
 pub mod Finish
 pub mod Cases
+pub mod Said
 pub mod Numbers
 pub mod Upstream
 pub mod Births

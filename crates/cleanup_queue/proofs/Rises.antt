@@ -23,10 +23,19 @@ use Rattle.queue_steps.specs.declared.attempts.RetryAnswer.{RetryAnswer}
 use Rattle.queue_stages.specs.Stages.{admitted, ended, cancelledBy}
 use Rattle.queue_stages.specs.declared.stages.StageAnswer.{StageAnswer}
 use Rattle.queue_stages.specs.declared.stages.CancelAnswer.{CancelAnswer}
-use Rattle.cleanup_queue.specs.Runs.{Call, register, land, pop, complete, retry, admit, end, cancel, after, comingBy, coming, attemptOf, handedBy, attempts, Rising, none, one, more}
+use Rattle.cleanup_queue.specs.Runs.{Call, register, land, pop, complete, retry, admit, end, cancel, after, attemptOf, handedBy, attempts, Rising, none, one, more}
 use Rattle.cleanup_queue.proofs.ByCase.{register-by, land-by, Popping, pop-by, Outside, complete-by, retry-by}
 
 -- ---- what each call does to the attempt that comes next
+-- the attempt that the next handing out carries: a ready ticket's own, or else next
+abbrev comingBy : Selection → Bool → ℕ → ℕ
+comingBy Free marked next = next
+comingBy (Of t) true next = next
+comingBy (Of t) false next = t .attempt
+
+abbrev coming : Queue → ℕ
+coming q = comingBy (q .selection) (q .issued || q .failed) (q .next)
+
 -- nothing is handed out, and the same attempt comes next
 abbrev Waits : Queue → List ℕ → Queue → Type 0
 Waits q handed p = (handed ≡ []) × (coming p ≡ coming q)

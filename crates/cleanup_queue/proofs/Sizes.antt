@@ -1,4 +1,4 @@
--- Every call keeps the lengths of the two arrays
+-- Every call and every run keeps the lengths of the two arrays, and keeps a well-formed record well formed
 use Prim.Native.Nat.{ℕ}
 use mathlib.Core.Path.{_≡_, _∙_}
 use mathlib.Core.Bool.{true, not}

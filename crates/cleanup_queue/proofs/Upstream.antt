@@ -16,7 +16,8 @@ use Rattle.stage.specs.Phases.{next, isPending, isSettled, isCancelled}
 use Rattle.stage.specs.declared.phases.Phase.{Phase}
 use Rattle.stage.specs.declared.phases.Phase.the-variants.{Idle, Pending, Ended, Stopping, Closed}
 use Rattle.stage.specs.declared.phases.Event.the-variants.{Land, End, Cancel}
-use Rattle.stage.proofs.Ways.{hit, miss, pass, stop, either, other, and-left, and-right, clash, if-by}
+use Rattle.stage.proofs.Ways.{hit, miss, pass, stop, either, other, and-left, clash, if-by}
+use Rattle.queue_record.specs.Refusals.{notOut}
 use Rattle.queue_record.specs.Record.{Sized}
 use Rattle.queue_record.specs.WellFormed.{allZero, wellFormed}
 use Rattle.queue_record.specs.Waiting.{occupied, without, others, waiting}
@@ -29,9 +30,9 @@ use Rattle.queue_record.specs.declared.record.Selection.the-variants.{Free, Of}
 use Rattle.queue_record.specs.declared.record.Queue.{Queue}
 use Rattle.queue_record.proofs.Zeros.{full-below}
 use Rattle.queue_record.proofs.Fit.{fit, free-no-marks, issued-not-failed, failed-not-issued, issued-empty}
-use Rattle.queue_record.proofs.Waiting.{by-first}
+use Rattle.queue_record.proofs.Waiting.{by-first, none-occupied}
 use Rattle.queue_steps.specs.Births.{registered, landed}
-use Rattle.queue_steps.specs.Attempts.{slot, issuedTo, freshTicket, popped, selects, isOut, keepsOnDone, completed, retryAllowed, renewed, retriedBy, retried}
+use Rattle.queue_steps.specs.Attempts.{slot, issuedTo, freshTicket, popped, sameTicket, selects, isOut, keepsOnDone, refusedComplete, completed, retryAllowed, renewed, retriedBy, retried}
 use Rattle.queue_steps.specs.declared.births.Registered.the-variants.{Token}
 use Rattle.queue_steps.specs.declared.births.RegisterAnswer.{RegisterAnswer}
 use Rattle.queue_steps.specs.declared.attempts.Popped.the-variants.{Work}
@@ -47,8 +48,9 @@ use Rattle.queue_stages.specs.Stages.{refusedStage, afterAdmit, admittedBy, adm
 use Rattle.queue_stages.specs.declared.stages.StageAnswer.{StageAnswer}
 use Rattle.queue_stages.specs.declared.stages.Cancelled.{Cancelled}
 use Rattle.queue_stages.specs.declared.stages.CancelAnswer.{CancelAnswer}
+use Rattle.cleanup_queue.specs.Parts.{Fresh, SameOpening, Leaves, Pushes, TakesNext, TakesBack, Stays}
 use Rattle.cleanup_queue.specs.Runs.{Call, register, land, pop, complete, retry, admit, end, cancel, after, Rising}
-use Rattle.cleanup_queue.proofs.ByCase.{register-by, land-by, Popping, pop-by, complete-by, retry-by}
+use Rattle.cleanup_queue.proofs.ByCase.{register-by, land-by, Popping, pop-by, work-parts, complete-by, retry-by}
 use Rattle.cleanup_queue.proofs.Rises.{From, empty, next as later, lower, from-rising}
 use Rattle.cleanup_queue.proofs.Finish.{asked-yes, yes-asked, finish-means}
 
@@ -149,17 +151,9 @@ module _ (q : Queue) (k : ℕ) where
           by false n = inl (without-other k (t .token) (occupied 0 (q .slots)) (eqb-false k (t .token) n) ∙ here)
 
 -- ---- the openings
--- no token, nothing out, nothing selected, nothing waiting, and the stage not pending
-abbrev Fresh : Queue → Type 0
-Fresh q = (q .count ≡ 0) × (q .issued ≡ false) × (q .selection ≡ Free) × (waiting q ≡ []) × (isPending (q .phase) ≡ false)
-
 -- nothing selected and every place 0: nothing waits
 bare-waits : (q : Queue) → q .selection ≡ Free → allZero (q .slots) ≡ true → waiting q ≡ []
-bare-waits q e z = ap (λ (s : Selection). others s (occupied 0 (q .slots))) e ∙ none 0 (q .slots) z
-  where
-    none : (k : ℕ) (xs : List ℕ) → allZero xs ≡ true → occupied k xs ≡ []
-    none k [] h = refl
-    none k (x ∷ xs) h = hit _ (and-left (eqb x 0) (allZero xs) h) ∙ none (suc k) xs (and-right (eqb x 0) (allZero xs) h)
+bare-waits q e z = ap (λ (s : Selection). others s (occupied 0 (q .slots))) e ∙ none-occupied 0 (q .slots) z
 
 module _ (domain first : ℕ) where
   scope-bare : (scopeOf domain first .selection ≡ Free) × (allZero (scopeOf domain first .slots) ≡ true)
@@ -203,17 +197,23 @@ module _ (domain first : ℕ) (bindings : List ℕ) where
       (ap (λ (r : OpenAnswer). r .answer) (miss _ e), ap (λ (r : OpenAnswer). r .queue .domain) (miss _ e), ap (λ (r : OpenAnswer). committed (r .queue)) (miss _ e) ∙ take-append-seam bindings _)
 
 -- ---- every call
--- Every call leaves the domain (Q92, Q122, Q137, Q184, Q219, Q234, Q243, Q254).
-pub call-keeps-domain : (q : Queue) (c : Call) → after q c .domain ≡ q .domain
+-- Every call leaves what the opening gave: kind, domain and bindings.
+pub call-keeps-opening : (q : Queue) (c : Call) → SameOpening q (after q c)
 unfolding admitted ended cancelledBy
-call-keeps-domain q (register n) = register-by (λ (r : RegisterAnswer). r .queue .domain ≡ q .domain) q n (λ _. refl) (λ _ _ _. refl)
-call-keeps-domain q (land n) = land-by (λ (r : RegisterAnswer). r .queue .domain ≡ q .domain) q n (λ _. refl) (λ _ _ _ _. refl)
-call-keeps-domain q pop = pop-by (λ (r : PopAnswer). r .queue .domain ≡ q .domain) q (λ _ _. refl) refl (λ _ _ _ _ _ _. refl) (λ _ _ _ _. refl)
-call-keeps-domain q (complete t o k) = complete-by (λ (r : CompleteAnswer). r .queue .domain ≡ q .domain) q t o k (λ _. refl) (λ _ _ _. if-by (λ (p : Queue). p .domain ≡ q .domain) (eqb o 0) _ _ (λ _. refl) (λ _. refl))
-call-keeps-domain q retry = retry-by (λ (r : RetryAnswer). r .queue .domain ≡ q .domain) q (λ _. refl) (λ _ _ _ _. refl)
-call-keeps-domain q (admit m) = if-by (λ (r : StageAnswer). r .queue .domain ≡ q .domain) (not (wellFormed q)) _ _ (λ _. refl) (λ _. refl)
-call-keeps-domain q end = if-by (λ (r : StageAnswer). r .queue .domain ≡ q .domain) (not (wellFormed q)) _ _ (λ _. refl) (λ _. refl)
-call-keeps-domain q cancel = if-by (λ (r : CancelAnswer). r .queue .domain ≡ q .domain) (not (wellFormed q)) _ _ (λ _. refl) (λ _. refl)
+call-keeps-opening q (register n) = register-by (λ (r : RegisterAnswer). SameOpening q (r .queue)) q n (λ _. (refl, refl, refl, refl)) (λ _ _ _. (refl, refl, refl, refl))
+call-keeps-opening q (land n) = land-by (λ (r : RegisterAnswer). SameOpening q (r .queue)) q n (λ _. (refl, refl, refl, refl)) (λ _ _ _ _. (refl, refl, refl, refl))
+call-keeps-opening q pop = pop-by (λ (r : PopAnswer). SameOpening q (r .queue)) q (λ _ _. (refl, refl, refl, refl)) (refl, refl, refl, refl) (λ _ _ _ _ _ _. (refl, refl, refl, refl)) (λ _ _ _ _. (refl, refl, refl, refl))
+call-keeps-opening q (complete t o k) =
+    complete-by (λ (r : CompleteAnswer). SameOpening q (r .queue)) q t o k (λ _. (refl, refl, refl, refl))
+    (λ _ _ _. if-by (SameOpening q) (eqb o 0) _ _ (λ _. (refl, refl, refl, refl)) (λ _. (refl, refl, refl, refl)))
+call-keeps-opening q retry = retry-by (λ (r : RetryAnswer). SameOpening q (r .queue)) q (λ _. (refl, refl, refl, refl)) (λ _ _ _ _. (refl, refl, refl, refl))
+call-keeps-opening q (admit m) = if-by (λ (r : StageAnswer). SameOpening q (r .queue)) (not (wellFormed q)) _ _ (λ _. (refl, refl, refl, refl)) (λ _. (refl, refl, refl, refl))
+call-keeps-opening q end = if-by (λ (r : StageAnswer). SameOpening q (r .queue)) (not (wellFormed q)) _ _ (λ _. (refl, refl, refl, refl)) (λ _. (refl, refl, refl, refl))
+call-keeps-opening q cancel = if-by (λ (r : CancelAnswer). SameOpening q (r .queue)) (not (wellFormed q)) _ _ (λ _. (refl, refl, refl, refl)) (λ _. (refl, refl, refl, refl))
+
+-- So it leaves the domain (Q92, Q122, Q137, Q184, Q219, Q234, Q243, Q254).
+pub call-keeps-domain : (q : Queue) (c : Call) → after q c .domain ≡ q .domain
+call-keeps-domain q c = call-keeps-opening q c .1
 
 -- ---- register and land
 land-row : (p : Phase) → isPending p ≡ true → (isPending (next p Land) ≡ false) × (isSettled (next p Land) ≡ isCancelled p)
@@ -224,31 +224,24 @@ land-row Stopping h = (refl, refl)
 land-row Closed h = clash h refl
 
 module _ (q : Queue) (n : ℕ) where
-  abbrev Leaves : Queue → Type 0
-  Leaves p = (p .selection ≡ q .selection) × (p .failed ≡ q .failed) × (p .issued ≡ q .issued)
+  -- Register leaves the selected ticket, both marks, next and the stage (Q96 to Q98, Q108).
+  pub register-leaves : Leaves q (registered q n .queue) × (registered q n .queue .phase ≡ q .phase)
+  register-leaves = register-by (λ (r : RegisterAnswer). Leaves q (r .queue) × (r .queue .phase ≡ q .phase)) q n (λ _. ((refl, refl, refl, refl), refl)) (λ _ _ _. ((refl, refl, refl, refl), refl))
 
-  -- Register leaves the selected ticket, both marks and the stage (Q96 to Q98, Q108).
-  pub register-leaves : Leaves (registered q n .queue) × (registered q n .queue .phase ≡ q .phase)
-  register-leaves = register-by (λ (r : RegisterAnswer). Leaves (r .queue) × (r .queue .phase ≡ q .phase)) q n (λ _. ((refl, refl, refl), refl)) (λ _ _ _. ((refl, refl, refl), refl))
-
-  -- Land leaves the selected ticket and both marks (Q132, Q133).
-  pub land-leaves : Leaves (landed q n .queue)
-  land-leaves = land-by (λ (r : RegisterAnswer). Leaves (r .queue)) q n (λ _. (refl, refl, refl)) (λ _ _ _ _. (refl, refl, refl))
+  -- Land leaves the selected ticket, both marks and next (Q132, Q133).
+  pub land-leaves : Leaves q (landed q n .queue)
+  land-leaves = land-by (λ (r : RegisterAnswer). Leaves q (r .queue)) q n (λ _. (refl, refl, refl, refl)) (λ _ _ _ _. (refl, refl, refl, refl))
 
   pushed : Sized q → q .count < 64 → take (q .count + 1) (set (q .slots) (q .count) n) ≡ take (q .count) (q .slots) ++ (n ∷ [])
   pushed s k = let l : length (q .slots) ≡ 64 = s .slots in rw add-one (take-suc-set (q .slots) (q .count) n (omega arith))
 
-  -- the token is the number of slots in use, and these get the number behind them
-  abbrev Pushes : RegisterAnswer → Type 0
-  Pushes r = (token : ℕ) → r .answer ≡ Token token → (token ≡ q .count) × (take (r .queue .count) (r .queue .slots) ≡ take (q .count) (q .slots) ++ (n ∷ []))
-
   -- Register, where it answers a token, appends the number (Q93, Q94).
-  pub register-pushes : Sized q → Pushes (registered q n)
-  register-pushes s = register-by Pushes q n (λ m token e. let z : _≡_ {A = ℕ} 0 1 = cc in absurd (omega arith)) (λ w z k token e. (cc, pushed s k))
+  pub register-pushes : Sized q → Pushes q n (registered q n)
+  register-pushes s = register-by (Pushes q n) q n (λ m token e. let z : _≡_ {A = ℕ} 0 1 = cc in absurd (omega arith)) (λ w z k token e. (cc, pushed s k, refl, refl))
 
   -- Land, where it answers a token, appends the number (Q126, Q127).
-  pub land-pushes : Sized q → Pushes (landed q n)
-  land-pushes s = land-by Pushes q n (λ m token e. let z : _≡_ {A = ℕ} 0 1 = cc in absurd (omega arith)) (λ w z p k token e. (cc, pushed s k))
+  pub land-pushes : Sized q → Pushes q n (landed q n)
+  land-pushes s = land-by (Pushes q n) q n (λ m token e. let z : _≡_ {A = ℕ} 0 1 = cc in absurd (omega arith)) (λ w z p k token e. (cc, pushed s k, refl, refl))
 
   -- Register answers a token unless 1, 2 or 3 is due (Q93).
   pub register-succeeds : wellFormed q ≡ true → (n ≡ 0 → ⊥) → q .count < 64 → registered q n .answer ≡ Token (q .count)
@@ -260,12 +253,12 @@ module _ (q : Queue) (n : ℕ) where
   unfolding landed
   land-succeeds w z p k = ap (λ (r : RegisterAnswer). r .answer) (miss _ (ap not w) ∙ (miss _ (ne-eqb n 0 z) ∙ (miss _ (ap not p) ∙ miss _ (lt-leb 64 (q .count) k))))
 
-  -- Land answers a token only where the stage was pending; it is not pending afterwards, and settled exactly if it was cancelled (Q123, Q129, Q130).
-  pub land-moves : (token : ℕ) → landed q n .answer ≡ Token token → (isPending (q .phase) ≡ true) × (isPending (landed q n .queue .phase) ≡ false) × (isSettled (landed q n .queue .phase) ≡ isCancelled (q .phase))
+  -- Land answers a token only where the stage was pending; it is not pending afterwards, and settled exactly if it was cancelled, as the table moves it (Q123, Q129, Q130).
+  pub land-moves : (token : ℕ) → landed q n .answer ≡ Token token → (isPending (q .phase) ≡ true) × (isPending (landed q n .queue .phase) ≡ false) × (isSettled (landed q n .queue .phase) ≡ isCancelled (q .phase)) × (landed q n .queue .phase ≡ next (q .phase) Land)
   land-moves =
-      land-by (λ (r : RegisterAnswer). (token : ℕ) → r .answer ≡ Token token → (isPending (q .phase) ≡ true) × (isPending (r .queue .phase) ≡ false) × (isSettled (r .queue .phase) ≡ isCancelled (q .phase))) q n
+      land-by (λ (r : RegisterAnswer). (token : ℕ) → r .answer ≡ Token token → (isPending (q .phase) ≡ true) × (isPending (r .queue .phase) ≡ false) × (isSettled (r .queue .phase) ≡ isCancelled (q .phase)) × (r .queue .phase ≡ next (q .phase) Land)) q n
       (λ m token e. let z : _≡_ {A = ℕ} 0 1 = cc in absurd (omega arith))
-      (λ w z p k token e. (p, land-row (q .phase) p .0, land-row (q .phase) p .1))
+      (λ w z p k token e. (p, land-row (q .phase) p .0, land-row (q .phase) p .1, refl))
 
 -- ---- pop
 module _ (q : Queue) where
@@ -279,7 +272,7 @@ module _ (q : Queue) where
       (λ p s e full t number w. moved s t (slot q (s .token)) number (issuedTo q s (q .next)) w (f s (q .next) p full))
     where
       moved : (a t : Ticket) (m n : ℕ) (p : Queue) → Work a m ≡ Work t n → P a m p → P t n p
-      moved a t m n p e x = let u : a ≡ t = cc in let v : m ≡ n = cc in rw (u, v) at x
+      moved a t m n p e x = let w = work-parts a t m n e in rw (w .0, w .1) at x
 
   -- What is handed out was neither out nor failed before (Q143, Q144).
   pub pop-was-idle : (t : Ticket) (number : ℕ) → popped q .answer ≡ Work t number → (q .issued ≡ false) × (q .failed ≡ false)
@@ -292,6 +285,19 @@ module _ (q : Queue) where
   -- Its slot, and no other, is emptied (Q147).
   pub pop-empties : (t : Ticket) (number : ℕ) → popped q .answer ≡ Work t number → (popped q .queue .slots ≡ set (q .slots) (t .token) 0) × (popped q .queue .count ≡ q .count)
   pop-empties = work-by (λ t _ p. (p .slots ≡ set (q .slots) (t .token) 0) × (p .count ≡ q .count)) (λ t coming p full. (refl, refl))
+
+  -- Pop leaves the stage, the mark failed and the count of tokens.
+  pub pop-leaves : (popped q .queue .phase ≡ q .phase) × (popped q .queue .failed ≡ q .failed) × (popped q .queue .count ≡ q .count)
+  pop-leaves = pop-by (λ (r : PopAnswer). (r .queue .phase ≡ q .phase) × (r .queue .failed ≡ q .failed) × (r .queue .count ≡ q .count)) q (λ _ _. (refl, refl, refl)) (refl, refl, refl) (λ _ _ _ _ _ _. (refl, refl, refl)) (λ _ _ _ _. (refl, refl, refl))
+
+  -- Work handed out raises next by exactly 1 for a fresh ticket, and leaves it for a ready one.
+  pub pop-next : (t : Ticket) (number : ℕ) → popped q .answer ≡ Work t number → TakesNext q (popped q .queue)
+  pop-next =
+      pop-by (λ (r : PopAnswer). (t : Ticket) (number : ℕ) → r .answer ≡ Work t number → TakesNext q (r .queue)) q
+      (λ m _ t number e. let z : _≡_ {A = ℕ} 0 1 = cc in absurd (omega arith))
+      (λ t number e. let z : _≡_ {A = ℕ} 0 1 = cc in absurd (omega arith))
+      (λ p e token n full room t number w. ((λ _. refl), (λ s f. let z : _≡_ {A = ℕ} 0 1 = cc in absurd (omega arith))))
+      (λ p s e full t number w. ((λ f. let z : _≡_ {A = ℕ} 0 1 = cc in absurd (omega arith)), (λ _ _. refl)))
 
   -- Issued is set, and the ticket handed out is the selected one (Q148, Q149).
   pub pop-issues : (t : Ticket) (number : ℕ) → popped q .answer ≡ Work t number → (popped q .queue .issued ≡ true) × (popped q .queue .selection ≡ Of t)
@@ -327,18 +333,40 @@ module _ (q : Queue) (t : Ticket) (outcome kept : ℕ) where
       let out : isOut (q .issued) (q .selection) t ≡ true = pass _ i ∙ (ap (λ (x : Selection). selects x t) s ∙ same-self t) in
       ap (λ (r : CompleteAnswer). r .answer) (miss _ (ap not w) ∙ (miss _ (le-ltb 1 outcome l) ∙ (miss _ (ap not out) ∙ miss _ (keeps-nothing k))))
 
-  -- what is left of the queue: not issued, the slot with the kept number, failed exactly if Failed, selected exactly then
-  abbrev TakesBack : Queue → Type 0
-  TakesBack p = (p .issued ≡ false) × (p .slots ≡ set (q .slots) (t .token) kept) × (p .count ≡ q .count) × (p .failed ≡ eqb outcome 1) × ((outcome ≡ 1 → p .selection ≡ Of t) × (outcome ≡ 0 → p .selection ≡ Free))
+  -- Complete leaves the stage, next and the count of tokens.
+  pub complete-leaves : (completed q t outcome kept .queue .phase ≡ q .phase) × (completed q t outcome kept .queue .next ≡ q .next) × (completed q t outcome kept .queue .count ≡ q .count)
+  complete-leaves =
+      complete-by (λ (r : CompleteAnswer). Left (r .queue)) q t outcome kept (λ _. (refl, refl, refl))
+      (λ _ _ _. if-by Left (eqb outcome 0) _ _ (λ _. (refl, refl, refl)) (λ _. (refl, refl, refl)))
+    where
+      Left : Queue → Type 0
+      Left p = (p .phase ≡ q .phase) × (p .next ≡ q .next) × (p .count ≡ q .count)
 
   -- An answer taken in clears issued, fills the slot, and marks and selects as it says (Q188, Q189, Q191, Q192).
-  pub complete-takes-back : completed q t outcome kept .answer ≡ Settled → TakesBack (completed q t outcome kept .queue)
+  pub complete-takes-back : completed q t outcome kept .answer ≡ Settled → TakesBack q t outcome kept (completed q t outcome kept .queue)
   complete-takes-back =
-      complete-by (λ (r : CompleteAnswer). r .answer ≡ Settled → TakesBack (r .queue)) q t outcome kept
+      complete-by (λ (r : CompleteAnswer). r .answer ≡ Settled → TakesBack q t outcome kept (r .queue)) q t outcome kept
       (λ n e. let z : _≡_ {A = ℕ} 0 1 = cc in absurd (omega arith))
-      (λ o l k _. if-by TakesBack (eqb outcome 0) _ _
+      (λ o l k _. if-by (TakesBack q t outcome kept) (eqb outcome 0) _ _
       (λ e. let z : outcome ≡ 0 = eqb-true outcome 0 e in (refl, refl, refl, issued-not-failed q (o .sound) (o .issued) ∙ sym (ne-eqb outcome 1 (λ p. omega arith)), ((λ p. absurd (omega arith)), (λ _. refl))))
       (λ e. let n : outcome ≡ 0 → ⊥ = eqb-false outcome 0 e in (refl, refl, refl, sym (eq-eqb outcome 1 (omega arith)), ((λ _. o .selected), (λ p. absurd (n p))))))
+
+-- A reply to an earlier attempt is refused with 6.
+pub late-reply : (q : Queue) (s t : Ticket) (outcome kept : ℕ) → wellFormed q ≡ true → q .selection ≡ Of s → t .attempt < s .attempt → outcome ≤ 1 → completed q t outcome kept ≡ refusedComplete q notOut kept
+unfolding completed
+late-reply q s t outcome kept h e l o = miss _ (ap not h) ∙ (miss _ (le-ltb 1 outcome o) ∙ hit _ (ap not (apart (q .issued))))
+  where
+    differ : sameTicket s t ≡ false
+    differ = go (eqb (s .domain) (t .domain)) (eqb (s .token) (t .token))
+      where
+        go : (a b : Bool) → (a && (b && eqb (s .attempt) (t .attempt))) ≡ false
+        go false b = refl
+        go true false = refl
+        go true true = ne-eqb (s .attempt) (t .attempt) (λ p. omega arith)
+
+    apart : (i : Bool) → isOut i (q .selection) t ≡ false
+    apart false = refl
+    apart true = ap (λ (x : Selection). selects x t) e ∙ differ
 
 -- ---- retry
 module _ (q : Queue) where
@@ -359,9 +387,13 @@ module _ (q : Queue) where
       (λ n t e. let z : _≡_ {A = ℕ} 0 1 = cc in absurd (omega arith))
       (λ w s e a t h. yes-asked q (retryAllowed q (q .selection)) w ∙ ap yesOrNo (ap (retryAllowed q) e ∙ a))
 
-  -- Retry leaves the slots and the mark issued (Q221, Q222).
-  pub retry-leaves : (retried q .queue .slots ≡ q .slots) × (retried q .queue .count ≡ q .count) × (retried q .queue .issued ≡ q .issued)
-  retry-leaves = retry-by (λ (r : RetryAnswer). (r .queue .slots ≡ q .slots) × (r .queue .count ≡ q .count) × (r .queue .issued ≡ q .issued)) q (λ _. (refl, refl, refl)) (λ _ _ _ _. (refl, refl, refl))
+  -- Retry leaves the slots, the mark issued and the stage (Q221, Q222).
+  pub retry-leaves : (retried q .queue .slots ≡ q .slots) × (retried q .queue .count ≡ q .count) × (retried q .queue .issued ≡ q .issued) × (retried q .queue .phase ≡ q .phase)
+  retry-leaves = retry-by (λ (r : RetryAnswer). (r .queue .slots ≡ q .slots) × (r .queue .count ≡ q .count) × (r .queue .issued ≡ q .issued) × (r .queue .phase ≡ q .phase)) q (λ _. (refl, refl, refl, refl)) (λ _ _ _ _. (refl, refl, refl, refl))
+
+  -- A ticket answered raises next by exactly 1.
+  pub retry-next : (t : Ticket) → retried q .answer ≡ Again t → retried q .queue .next ≡ q .next + 1
+  retry-next = retry-by (λ (r : RetryAnswer). (t : Ticket) → r .answer ≡ Again t → r .queue .next ≡ q .next + 1) q (λ n t e. let z : _≡_ {A = ℕ} 0 1 = cc in absurd (omega arith)) (λ _ _ _ _ _ _. refl)
 
   -- A ticket was selected before; the ticket answered is selected now, neither out nor failed (Q215, Q225 to Q227).
   pub retry-renews : (t : Ticket) → retried q .answer ≡ Again t → ((s : Ticket) × (q .selection ≡ Of s)) × (retried q .queue .selection ≡ Of t) × (retried q .queue .failed ≡ false) × (retried q .queue .issued ≡ false)
@@ -398,23 +430,33 @@ cancel-row Stopping = (refl, refl)
 cancel-row Closed = (refl, refl)
 
 module _ (q : Queue) where
-  abbrev Stays : Queue → Type 0
-  Stays p = (p .selection ≡ q .selection) × (p .slots ≡ q .slots) × (p .count ≡ q .count) × (p .issued ≡ q .issued)
-
-  -- Admit leaves the selected ticket, the slots and the mark issued (Q231, Q235, Q236).
-  pub admit-leaves : (matched : Bool) → Stays (admitted q matched .queue)
+  -- Admit leaves all but the phase: the selected ticket, the slots, both marks and next (Q231, Q235, Q236).
+  pub admit-leaves : (matched : Bool) → Stays q (admitted q matched .queue)
   unfolding admitted
-  admit-leaves matched = if-by (λ (r : StageAnswer). Stays (r .queue)) (not (wellFormed q)) _ _ (λ _. (refl, refl, refl, refl)) (λ _. (refl, refl, refl, refl))
+  admit-leaves matched = if-by (λ (r : StageAnswer). Stays q (r .queue)) (not (wellFormed q)) _ _ (λ _. (refl, refl, refl, refl, refl, refl)) (λ _. (refl, refl, refl, refl, refl, refl))
 
   -- So does end (Q240, Q244, Q245).
-  pub end-leaves : Stays (ended q .queue)
+  pub end-leaves : Stays q (ended q .queue)
   unfolding ended
-  end-leaves = if-by (λ (r : StageAnswer). Stays (r .queue)) (not (wellFormed q)) _ _ (λ _. (refl, refl, refl, refl)) (λ _. (refl, refl, refl, refl))
+  end-leaves = if-by (λ (r : StageAnswer). Stays q (r .queue)) (not (wellFormed q)) _ _ (λ _. (refl, refl, refl, refl, refl, refl)) (λ _. (refl, refl, refl, refl, refl, refl))
 
   -- So does cancel (Q251, Q255, Q256).
-  pub cancel-leaves : Stays (cancelledBy q .queue)
+  pub cancel-leaves : Stays q (cancelledBy q .queue)
   unfolding cancelledBy
-  cancel-leaves = if-by (λ (r : CancelAnswer). Stays (r .queue)) (not (wellFormed q)) _ _ (λ _. (refl, refl, refl, refl)) (λ _. (refl, refl, refl, refl))
+  cancel-leaves = if-by (λ (r : CancelAnswer). Stays q (r .queue)) (not (wellFormed q)) _ _ (λ _. (refl, refl, refl, refl, refl, refl)) (λ _. (refl, refl, refl, refl, refl, refl))
+
+  -- The phase after each is the table's.
+  pub admit-moves : (matched : Bool) → wellFormed q ≡ true → admitted q matched .queue .phase ≡ afterAdmit (q .phase) matched
+  unfolding admitted
+  admit-moves matched w = ap (λ (r : StageAnswer). r .queue .phase) (miss _ (ap not w))
+
+  pub end-moves : wellFormed q ≡ true → ended q .queue .phase ≡ next (q .phase) End
+  unfolding ended
+  end-moves w = ap (λ (r : StageAnswer). r .queue .phase) (miss _ (ap not w))
+
+  pub cancel-moves : wellFormed q ≡ true → cancelledBy q .queue .phase ≡ next (q .phase) Cancel
+  unfolding cancelledBy
+  cancel-moves w = ap (λ (r : CancelAnswer). r .queue .phase) (miss _ (ap not w))
 
   -- Admit answers whether the stage is pending afterwards (Q237).
   pub admit-answers : (matched : Bool) → admitted q matched .answer ≡ asked q (isPending (admitted q matched .queue .phase))
@@ -438,12 +480,10 @@ module _ (q : Queue) where
       if-by (λ (r : StageAnswer). r .answer ≡ Yes → (isPending (r .queue .phase) ≡ false) × (isSettled (r .queue .phase) ≡ true)) (not (wellFormed q)) _ _
       (λ _ h. let z : _≡_ {A = ℕ} 0 1 = cc in absurd (omega arith)) (λ _ h. end-row (q .phase) h)
 
-  -- After cancel the stage is cancelled, and pending exactly if it was (Q257, Q258).
-  pub cancel-cancels : cancelledBy q .answer ≡ Cancelled.Done → (isCancelled (cancelledBy q .queue .phase) ≡ true) × (isPending (cancelledBy q .queue .phase) ≡ isPending (q .phase))
+  -- Cancel of a well-formed record is done; the stage is cancelled then, and pending exactly if it was (Q257, Q258).
+  pub cancel-cancels : wellFormed q ≡ true → (cancelledBy q .answer ≡ Cancelled.Done) × (isCancelled (cancelledBy q .queue .phase) ≡ true) × (isPending (cancelledBy q .queue .phase) ≡ isPending (q .phase))
   unfolding cancelledBy
-  cancel-cancels =
-      if-by (λ (r : CancelAnswer). r .answer ≡ Cancelled.Done → (isCancelled (r .queue .phase) ≡ true) × (isPending (r .queue .phase) ≡ isPending (q .phase))) (not (wellFormed q)) _ _
-      (λ _ h. let z : _≡_ {A = ℕ} 0 1 = cc in absurd (omega arith)) (λ _ _. cancel-row (q .phase))
+  cancel-cancels w = (ap (λ (r : CancelAnswer). r .answer) (miss _ (ap not w)), ap isCancelled (cancel-moves w) ∙ cancel-row (q .phase) .0, ap isPending (cancel-moves w) ∙ cancel-row (q .phase) .1)
 
 -- ---- can_finish and is_empty
 -- Where can_finish says yes, nothing is out (Q266).

@@ -25,8 +25,6 @@ use Rattle.queue_steps.specs.Births.{grown, registered, landed}
 use Rattle.queue_steps.specs.Attempts.{slot, issuedTo, freshTicket, popped, keepsOnDone, tookBack, completed, retried}
 use Rattle.queue_steps.specs.declared.births.Registered.{Registered}
 use Rattle.queue_steps.specs.declared.births.Registered.the-variants.{Token}
-use Rattle.queue_steps.specs.declared.births.RegisterAnswer.{RegisterAnswer}
-use Rattle.queue_steps.specs.declared.attempts.Popped.the-variants.{Work}
 use Rattle.queue_steps.specs.declared.attempts.PopAnswer.{PopAnswer}
 use Rattle.queue_steps.specs.declared.attempts.CompleteAnswer.{CompleteAnswer}
 use Rattle.queue_steps.specs.declared.attempts.RetryAnswer.{RetryAnswer}
@@ -34,7 +32,8 @@ use Rattle.queue_stages.specs.Stages.{admitted, ended, cancelledBy}
 use Rattle.queue_stages.specs.declared.stages.StageAnswer.{StageAnswer}
 use Rattle.queue_stages.specs.declared.stages.CancelAnswer.{CancelAnswer}
 use Rattle.cleanup_queue.specs.Promises.{handsOut}
-use Rattle.cleanup_queue.proofs.ByCase.{register-by, land-by, pop-by, Outside, complete-by, retry-by}
+use Rattle.cleanup_queue.specs.Parts.{Appends, Drops}
+use Rattle.cleanup_queue.proofs.ByCase.{register-by, land-by, pop-by, work-parts, Outside, complete-by, retry-by}
 
 -- ---- register and land append one
 module _ (q : Queue) (n : ℕ) (s : Sized q) where
@@ -50,20 +49,17 @@ module _ (q : Queue) (n : ℕ) (s : Sized q) where
       let l : length (q .slots) ≡ 64 = s .slots in
       ap (others (q .selection)) (appended-slots (q .slots) (q .count) n (fit q h .slots) (omega arith) z) ∙ new-apart (q .selection) (occupied 0 (q .slots)) (fit q h .ticket)
 
-  abbrev Appends : RegisterAnswer → Type 0
-  Appends r = (token : ℕ) → r .answer ≡ Token token → waiting (r .queue) ≡ waiting q ++ (token ∷ [])
-
   refused-apart : {A : Type 0} (m token : ℕ) → Registered.Refused m n ≡ Token token → A
   refused-apart m token e = let z : _≡_ {A = ℕ} 0 1 = cc in absurd (omega arith)
 
   token-is : (token : ℕ) → Token (q .count) ≡ Token token → q .count ≡ token
   token-is token e = cc
 
-  pub register-appends : Appends (registered q n)
-  register-appends = register-by Appends q n (λ m token e. refused-apart m token e) (λ w z k token e. grown-waits w z k ∙ ap (λ (t : ℕ). waiting q ++ (t ∷ [])) (token-is token e))
+  pub register-appends : Appends q (registered q n)
+  register-appends = register-by (Appends q) q n (λ m token e. refused-apart m token e) (λ w z k token e. grown-waits w z k ∙ ap (λ (t : ℕ). waiting q ++ (t ∷ [])) (token-is token e))
 
-  pub land-appends : Appends (landed q n)
-  land-appends = land-by Appends q n (λ m token e. refused-apart m token e) (λ w z p k token e. grown-waits w z k ∙ ap (λ (t : ℕ). waiting q ++ (t ∷ [])) (token-is token e))
+  pub land-appends : Appends q (landed q n)
+  land-appends = land-by (Appends q) q n (λ m token e. refused-apart m token e) (λ w z p k token e. grown-waits w z k ∙ ap (λ (t : ℕ). waiting q ++ (t ∷ [])) (token-is token e))
 
 -- ---- a fresh pop drops the last, a ready one nothing
 module _ (q : Queue) where
@@ -76,19 +72,13 @@ module _ (q : Queue) where
   ready-waits : (t : Ticket) (next : ℕ) → q .selection ≡ Of t → waiting (issuedTo q t next) ≡ waiting q
   ready-waits t next e = stored-slots (q .slots) (t .token) 0 ∙ sym (ap (λ (s : Selection). others s (occupied 0 (q .slots))) e)
 
-  abbrev Drops : PopAnswer → Type 0
-  Drops r = (t : Ticket) (number : ℕ) → r .answer ≡ Work t number → q .selection ≡ Free → waiting q ≡ waiting (r .queue) ++ (t .token ∷ [])
-
-  pub fresh-pop-drops : Drops (popped q)
+  pub fresh-pop-drops : Drops q (popped q)
   fresh-pop-drops =
-      pop-by Drops q
+      pop-by (Drops q) q
       (λ m _ t number e f. let z : _≡_ {A = ℕ} 0 1 = cc in absurd (omega arith))
       (λ t number e f. let z : _≡_ {A = ℕ} 0 1 = cc in absurd (omega arith))
-      (λ p e token n full room t number w f. fresh-waits token (q .next + 1) e n ∙ ap (λ (k : ℕ). waiting (issuedTo q (freshTicket q token) (q .next + 1)) ++ (k ∷ [])) (ap (λ (x : Ticket). x .token) (work-ticket (freshTicket q token) t (slot q token) number w)))
+      (λ p e token n full room t number w f. fresh-waits token (q .next + 1) e n ∙ ap (λ (k : ℕ). waiting (issuedTo q (freshTicket q token) (q .next + 1)) ++ (k ∷ [])) (ap (λ (x : Ticket). x .token) (work-parts (freshTicket q token) t (slot q token) number w .0)))
       (λ p s e full t number w f. let z : _≡_ {A = ℕ} 0 1 = cc in absurd (omega arith))
-    where
-      work-ticket : (a b : Ticket) (m n : ℕ) → Work a m ≡ Work b n → a ≡ b
-      work-ticket a b m n e = cc
 
   pub ready-pop-keeps : (t : Ticket) → q .selection ≡ Of t → waiting (popped q .queue) ≡ waiting q
   ready-pop-keeps t e =

@@ -1,5 +1,6 @@
 pub mod Answers
 pub mod Promises
+pub mod Parts
 pub mod Runs
 pub mod Marked
 pub mod Orders

@@ -1,14 +1,14 @@
 -- The marked bench cases W1 to W12 of document 01: what the definitions say beside what the paper says
 use Prim.Native.Nat.{ℕ, zero, suc}
 use mathlib.Core.List.{List, [], _∷_}
-use Rattle.queue_record.specs.Openings.{scopeOf, iteratorOf}
+use Rattle.queue_record.specs.Openings.{scopeOf, iteratorOpened}
 use Rattle.queue_record.specs.declared.record.Ticket.{Ticket}
 use Rattle.queue_record.specs.declared.record.Queue.{Queue}
 use Rattle.queue_steps.specs.Births.{registered, landed}
 use Rattle.queue_steps.specs.Attempts.{popped, completed, retried}
 use Rattle.queue_questions.specs.Questions.{matches}
 use Rattle.queue_stages.specs.Stages.{admitted}
-use Rattle.cleanup_queue.specs.Answers.{Said, says, registeredSays, poppedSays, completedSays, retriedSays, toldSays}
+use Rattle.cleanup_queue.specs.Answers.{Said, says, openedSays, registeredSays, poppedSays, completedSays, retriedSays, toldSays}
 
 -- ---- the queues of the cases: a scope of domain 0, first attempt 0, unless said
 abbrev ticket : ℕ → ℕ → Ticket
@@ -43,15 +43,21 @@ lastOut = popped last .queue
 abbrev pub spent : Queue
 spent = completed lastOut (ticket 0 2) 1 0 .queue
 
--- W10's queue
-abbrev pub atTheTop : Queue
-atTheTop = completed (popped (registered (scopeOf 0 18446744073709551614) 9 .queue) .queue) (ticket 0 18446744073709551614) 1 9 .queue
+-- W10's queues: 9 registered, its last attempt out, and Failed keeping 9
+abbrev high : Queue
+high = registered (scopeOf 0 18446744073709551614) 9 .queue
+
+abbrev highOut : Queue
+highOut = popped high .queue
+
+abbrev atTheTop : Queue
+atTheTop = completed highOut (ticket 0 18446744073709551614) 1 9 .queue
 
 -- W11's queues
-abbrev pub iterator : Queue
-iterator = iteratorOf 0 0 (4 ∷ 9 ∷ [])
+abbrev iterator : Queue
+iterator = iteratorOpened 0 0 (4 ∷ 9 ∷ []) .queue
 
-abbrev pub pending : Queue
+abbrev pending : Queue
 pending = admitted iterator (matches iterator (9 ∷ 4 ∷ 9 ∷ [])) .queue
 
 -- a queue after n registers of 5
@@ -77,6 +83,7 @@ table =
     row 1 (poppedSays (popped fresh .answer)) nothing ∷
     row 2 (poppedSays (popped two .answer)) (says 0 (0 ∷ 1 ∷ 0 ∷ 72 ∷ [])) ∷
     row 3 (poppedSays (popped out .answer)) nothing ∷
+    row 4 (completedSays (completed out (ticket 1 0) 1 72 .answer)) (says 0 []) ∷
     row 4 (poppedSays (popped failed .answer)) nothing ∷
     row 5 (retriedSays (retried failed .answer)) (says 0 (0 ∷ 1 ∷ 1 ∷ [])) ∷
     row 5 (poppedSays (popped (retried failed .queue) .answer)) (says 0 (0 ∷ 1 ∷ 1 ∷ 72 ∷ [])) ∷
@@ -84,9 +91,13 @@ table =
     row 7 (completedSays (completed outAgain (ticket 1 1) 0 72 .answer)) (says 7 (72 ∷ [])) ∷
     row 8 (completedSays (completed outAgain (ticket 1 1) 0 0 .answer)) (says 0 []) ∷
     row 8 (poppedSays (popped last .answer)) (says 0 (0 ∷ 0 ∷ 2 ∷ 71 ∷ [])) ∷
+    row 9 (completedSays (completed lastOut (ticket 0 2) 1 0 .answer)) (says 0 []) ∷
     row 9 (retriedSays (retried spent .answer)) (says 8 []) ∷
     row 9 (poppedSays (popped spent .answer)) nothing ∷
+    row 10 (poppedSays (popped high .answer)) (says 0 (0 ∷ 0 ∷ 18446744073709551614 ∷ 9 ∷ [])) ∷
+    row 10 (completedSays (completed highOut (ticket 0 18446744073709551614) 1 9 .answer)) (says 0 []) ∷
     row 10 (retriedSays (retried atTheTop .answer)) (says 8 []) ∷
+    row 11 (openedSays (iteratorOpened 0 0 (4 ∷ 9 ∷ []) .answer)) (says 0 []) ∷
     row 11 (toldSays (admitted iterator (matches iterator (9 ∷ 4 ∷ 9 ∷ [])) .answer)) (says 0 (1 ∷ [])) ∷
     row 11 (registeredSays (landed pending 30 .answer)) (says 0 (0 ∷ [])) ∷
     row 11 (registeredSays (landed (landed pending 30 .queue) 31 .answer)) (says 4 (31 ∷ [])) ∷

@@ -1,5 +1,6 @@
--- The refusals of each call in document 01's order, each with when it is given: "Numbers of refusal", table and last line
+-- What each call says: its refusals in document 01's order, each with when it is given ("Numbers of refusal", table and last line), and its values
 use Prim.Native.Nat.{ℕ}
+use mathlib.Core.Path.{_≡_}
 use mathlib.Core.Bool.{Bool, true, false, not, _&&_}
 use mathlib.Core.List.{List, [], _∷_}
 use lib.Dec.{eqb, leb, ltb}
@@ -9,7 +10,7 @@ use Rattle.stage.specs.Phases.{isPending}
 use Rattle.queue_record.specs.Refusals.{done, broken, badNumber, noSlot, notPending, noAttempt, notOut, keptOnDone, noRetry, hollow, badOutcome, tooManyBindings}
 use Rattle.queue_record.specs.WellFormed.{wellFormed}
 use Rattle.queue_record.specs.Waiting.{waiting}
-use Rattle.queue_record.specs.Newest.{newest}
+use Rattle.queue_record.specs.Newest.{newest, isThere}
 use Rattle.queue_record.specs.declared.search.Found.{Found}
 use Rattle.queue_record.specs.declared.search.Found.the-variants.{At, Missing}
 use Rattle.queue_record.specs.declared.record.Ticket.{Ticket}
@@ -17,6 +18,8 @@ use Rattle.queue_record.specs.declared.record.Selection.{Selection}
 use Rattle.queue_record.specs.declared.record.Selection.the-variants.{Free, Of}
 use Rattle.queue_record.specs.declared.record.Queue.{Queue}
 use Rattle.queue_steps.specs.Attempts.{noMore, slot, isOut, keepsOnDone, retryAllowed}
+use Rattle.queue_questions.specs.declared.questions.Told.{Told}
+use Rattle.cleanup_queue.specs.Answers.{Said, says, toldSays}
 
 -- a refusal's number, and whether what it is given for is the case
 pub record Due : Type 0 where
@@ -30,6 +33,15 @@ due n b = record { number = n; case = b }
 abbrev pub firstDue : List Due → ℕ
 firstDue [] = done
 firstDue (d ∷ ds) = if d .case then d .number else firstDue ds
+
+-- what a call says: the first that is due with the values given back; 0, done, with the call's own values where none is
+abbrev pub firstSaid : List Due → List ℕ → List ℕ → Said
+firstSaid [] back own = says done own
+firstSaid (d ∷ ds) back own = if d .case then says (d .number) back else firstSaid ds back own
+
+-- where an answer's number is not 0, its values are those given back, and the record with it is q
+abbrev pub RefusedAs : Queue → List ℕ → Said → Queue → Type 0
+RefusedAs q back s p = (s .number ≡ 0 → ⊥) → (s .values ≡ back) × (p ≡ q)
 
 -- an iterator's opening 14
 abbrev pub openingOrder : List ℕ → List Due
@@ -66,10 +78,6 @@ chosenToken false true s ks = Missing
 chosenToken false false (Of t) ks = At (t .token)
 chosenToken false false Free ks = newest ks
 
-abbrev pub isThere : Found → Bool
-isThere Missing = false
-isThere (At k) = true
-
 abbrev pub isHollow : Queue → Found → Bool
 isHollow q Missing = false
 isHollow q (At k) = eqb (slot q k) 0
@@ -81,6 +89,18 @@ popOrder q =
     due hollow (isHollow q (chosenToken (q .issued) (q .failed) (q .selection) (waiting q))) ∷
     due noAttempt (isThere (freshToken (q .issued) (q .failed) (q .selection) (waiting q)) && leb noMore (q .next)) ∷
     []
+
+-- what pop hands out, as values: the fresh ticket for the token found, with the number in its slot
+abbrev pub freshValues : Queue → Found → List ℕ
+freshValues q Missing = []
+freshValues q (At k) = q .domain ∷ k ∷ q .next ∷ slot q k ∷ []
+
+-- the ready ticket as it is, or a fresh one; nothing while something is issued or failed
+abbrev pub workValues : Queue → Bool → Bool → Selection → List ℕ
+workValues q true failed s = []
+workValues q false true s = []
+workValues q false false (Of t) = t .domain ∷ t .token ∷ t .attempt ∷ slot q (t .token) ∷ []
+workValues q false false Free = freshValues q (newest (waiting q))
 
 -- complete 1, 15, 6, 7
 abbrev pub completeOrder : Queue → Ticket → ℕ → ℕ → List Due
@@ -98,6 +118,23 @@ retryOrder q =
     due noRetry (not (retryAllowed q (q .selection))) ∷
     []
 
+-- the renewed ticket, as values
+abbrev pub renewedValues : Queue → Selection → List ℕ
+renewedValues q Free = []
+renewedValues q (Of t) = t .domain ∷ t .token ∷ q .next ∷ []
+
 -- yes-or-no calls refuse only with 1
 abbrev pub brokenOnly : Queue → List Due
 brokenOnly q = due broken (not (wellFormed q)) ∷ []
+
+-- yes is 1 and no is 0
+abbrev pub bit : Bool → ℕ
+bit b = if b then 1 else 0
+
+-- an answer says 1 where the record is not well formed, and 0 otherwise
+abbrev pub OnlyBroken : Queue → Told → Type 0
+OnlyBroken q r = toldSays r .number ≡ firstDue (brokenOnly q)
+
+-- and where it says 0, it says whether b
+abbrev pub Tells : Queue → Bool → Told → Type 0
+Tells q b r = toldSays r ≡ firstSaid (brokenOnly q) [] (bit b ∷ [])

@@ -1,4 +1,4 @@
--- The words in which the laws of the calls are stated
+-- When pop may hand out work and what it hands out, and when can_finish says yes
 use Prim.Native.Nat.{ℕ}
 use mathlib.Core.Path.{_≡_}
 use mathlib.Core.Logic.{_⊎_}
@@ -15,11 +15,11 @@ use Rattle.queue_record.specs.declared.record.Queue.{Queue}
 use Rattle.queue_steps.specs.Attempts.{noMore, slot, freshTicket}
 use Rattle.queue_steps.specs.declared.attempts.Popped.{Popped}
 use Rattle.queue_steps.specs.declared.attempts.Popped.the-variants.{Work, Nothing, Refused}
-use Rattle.queue_questions.specs.Questions.{committed}
+use Rattle.queue_questions.specs.Questions.{nothingLeft, committed}
 
+-- nothing is left of some tokens, as is_empty asks it where nothing is selected
 abbrev pub isNone : List ℕ → Bool
-isNone [] = true
-isNone (k ∷ ks) = false
+isNone ks = nothingLeft Free ks
 
 -- ---- pop
 -- the answer hands out work

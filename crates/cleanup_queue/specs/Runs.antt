@@ -1,10 +1,8 @@
--- Runs: any calls with any inputs, one after the other, and the attempts that they hand out
+-- Runs: any calls with any inputs, one after the other, the attempts that they hand out, and the tokens that they give
 use Prim.Native.Nat.{ℕ, _<_}
-use mathlib.Core.Bool.{Bool, true, false, _||_}
+use mathlib.Core.Bool.{Bool}
 use mathlib.Core.List.{List, [], _∷_, _++_}
 use Rattle.queue_record.specs.declared.record.Ticket.{Ticket}
-use Rattle.queue_record.specs.declared.record.Selection.{Selection}
-use Rattle.queue_record.specs.declared.record.Selection.the-variants.{Free, Of}
 use Rattle.queue_record.specs.declared.record.Queue.{Queue}
 use Rattle.queue_steps.specs.Births.{registered, landed}
 use Rattle.queue_steps.specs.Attempts.{popped, completed, retried}
@@ -39,15 +37,6 @@ after q cancel = cancelledBy q .queue
 abbrev pub afterAll : Queue → List Call → Queue
 afterAll q [] = q
 afterAll q (c ∷ cs) = afterAll (after q c) cs
-
--- the attempt that the next handing out carries: a ready ticket's own, or else next
-abbrev pub comingBy : Selection → Bool → ℕ → ℕ
-comingBy Free marked next = next
-comingBy (Of t) true next = next
-comingBy (Of t) false next = t .attempt
-
-abbrev pub coming : Queue → ℕ
-coming q = comingBy (q .selection) (q .issued || q .failed) (q .next)
 
 -- the attempt that an answer of pop hands out, if it does
 abbrev pub attemptOf : Popped → List ℕ

@@ -1,4 +1,4 @@
-// The public face of a cleanup queue: the record, the openings and the calls. No other call is public.
+// The public face of a cleanup queue: the record, its check, the openings and the calls. No other call is public.
 pub use queue_questions::DomainTold;
 pub use queue_questions::Told;
 pub use queue_questions::can_finish;

@@ -18,33 +18,12 @@ pub fn fits(field: u64, index: u64, value: u64) -> bool {
     }
 }
 
-// A field that is an enum is not stored to, so the record is written anew.
-fn with_kind(q: Queue, kind: Kind) -> Queue {
-    let slots = q.slots;
-    let selection = q.selection;
-    let phase = q.phase;
-    let bindings = q.bindings;
-    Queue {
-        kind: kind,
-        domain: q.domain,
-        next: q.next,
-        slots: slots,
-        count: q.count,
-        selection: selection,
-        failed: q.failed,
-        issued: q.issued,
-        phase: phase,
-        bindings: bindings,
-        bound: q.bound,
-    }
-}
-
 fn set_kind(q: Queue, value: u64) -> Queue {
     let kind = match value {
         0 => Kind::Scope,
         _ => Kind::Iterator,
     };
-    with_kind(q, kind)
+    queue_record::set_kind(q, kind)
 }
 
 fn set_phase(q: Queue, value: u64) -> Queue {

@@ -1,4 +1,4 @@
-// The calls that ask and change nothing.
+// Questions to one queue, public and for the crates above.
 mod questions;
 
 pub use questions::DomainTold;

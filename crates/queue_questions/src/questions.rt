@@ -1,4 +1,4 @@
-// The calls that ask and change nothing.
+// The yes-or-no calls and domain: each refuses a broken record, and changes nothing.
 use queue_record::Found;
 use queue_record::Queue;
 use queue_record::Selection;

@@ -84,7 +84,7 @@ module _ (q : Queue) (t : Ticket) (h : wellFormed q ≡ true) (e : q .selection 
   pub selected-below : t .token < 64
   selected-below = let b : t .token < q .count = selected-born in let f : Fit q = fit q h in omega arith
 
-  pub selected-slot : slotFits (q .failed) (q .issued) (getD (q .slots) (t .token) 0) ≡ true
+  selected-slot : slotFits (q .failed) (q .issued) (getD (q .slots) (t .token) 0) ≡ true
   selected-slot = sym (ap (selectedFits (q .failed) (q .issued) (q .slots)) e) ∙ fit q h .selected
 
 -- ---- the marks

@@ -80,10 +80,6 @@ unfolding newest
 newest-none [] h = refl
 newest-none (k ∷ ks) h = absurd (last-at k ks h)
 
-pub newest-some : (ks : List ℕ) (k : ℕ) → newest ks ≡ At k → (ks ≡ [] → ⊥)
-unfolding newest
-newest-some ks k h e = let w : Missing ≡ At k = sym (ap (lastOr Missing) e) ∙ h in let z : _≡_ {A = ℕ} 0 1 = cc in omega arith
-
 -- ---- what is found comes last
 last-apart : (xs : List ℕ) (k j : ℕ) → lastOr Missing (occupied k xs) ≡ At j → occupied k xs ≡ without j (occupied k xs) ++ (j ∷ [])
 last-apart [] k j h = let w : _≡_ {A = ℕ} 0 1 = cc in absurd (omega arith)

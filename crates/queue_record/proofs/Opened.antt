@@ -23,11 +23,11 @@ pub scope-sized : (domain first : ℕ) → Sized (scopeOf domain first)
 unfolding scopeOf
 scope-sized domain first = record { slots = refl; bindings = refl }
 
-pub blank-well-formed : wellFormed blank ≡ true
+blank-well-formed : wellFormed blank ≡ true
 unfolding blank
 blank-well-formed = scope-well-formed 0 0
 
-pub blank-sized : Sized blank
+blank-sized : Sized blank
 unfolding blank
 blank-sized = scope-sized 0 0
 
@@ -45,7 +45,7 @@ module _ (domain first : ℕ) (bindings : List ℕ) where
     selected = refl;
   })
 
-  pub iterator-sized : length bindings ≤ 16 → Sized (iteratorOf domain first bindings)
+  iterator-sized : length bindings ≤ 16 → Sized (iteratorOf domain first bindings)
   unfolding iteratorOf
   iterator-sized l = record { slots = refl; bindings = kept-length bindings l }
 

@@ -35,14 +35,6 @@ without-skip t k ks e = hit _ (eq-eqb k t e)
 pub without-keep : (t k : ℕ) (ks : List ℕ) → (k ≡ t → ⊥) → without t (k ∷ ks) ≡ k ∷ without t ks
 without-keep t k ks n = miss _ (ne-eqb k t n)
 
-pub without-twice : (t : ℕ) (ks : List ℕ) → without t (without t ks) ≡ without t ks
-without-twice t [] = refl
-without-twice t (k ∷ ks) = go (eqb k t) refl (without-twice t ks)
-  where
-    go : (b : Bool) → eqb k t ≡ b → without t (without t ks) ≡ without t ks → without t (if b then without t ks else k ∷ without t ks) ≡ (if b then without t ks else k ∷ without t ks)
-    go true e rest = rest
-    go false e rest = miss _ e ∙ ap (λ (l : List ℕ). k ∷ l) rest
-
 pub without-append : (t : ℕ) (ks js : List ℕ) → without t (ks ++ js) ≡ without t ks ++ without t js
 without-append t [] js = refl
 without-append t (k ∷ ks) js = go (eqb k t) (without-append t ks js)
@@ -52,7 +44,7 @@ without-append t (k ∷ ks) js = go (eqb k t) (without-append t ks js)
     go false rest = ap (λ (l : List ℕ). k ∷ l) rest
 
 -- a token below the first place is not among the occupied ones
-pub without-below : (t k : ℕ) (xs : List ℕ) → t < k → without t (occupied k xs) ≡ occupied k xs
+without-below : (t k : ℕ) (xs : List ℕ) → t < k → without t (occupied k xs) ≡ occupied k xs
 without-below t k [] h = refl
 without-below t k (x ∷ xs) h =
     let rest : without t (occupied (suc k) xs) ≡ occupied (suc k) xs = without-below t (suc k) xs (omega arith) in
@@ -77,7 +69,7 @@ pub stored : (k : ℕ) (xs : List ℕ) (i n : ℕ) → without (k + i) (occupied
 stored k xs i n = sym (emptied k (set xs i n) i) ∙ (ap (occupied k) (set-set xs i n 0) ∙ emptied k xs i)
 
 -- ---- a number in the first unused place comes last
-none-occupied : (k : ℕ) (xs : List ℕ) → allZero xs ≡ true → occupied k xs ≡ []
+pub none-occupied : (k : ℕ) (xs : List ℕ) → allZero xs ≡ true → occupied k xs ≡ []
 none-occupied k [] h = refl
 none-occupied k (x ∷ xs) h = occupied-empty k x xs (and-left (eqb x 0) (allZero xs) h) ∙ none-occupied (suc k) xs (and-right (eqb x 0) (allZero xs) h)
 

@@ -4,8 +4,12 @@ use mathlib.Core.Path.{_≡_}
 use mathlib.Core.Bool.{Bool}
 use lib.ListN.{length, set}
 use Rattle.stage.specs.declared.phases.Phase.{Phase}
+use Rattle.queue_record.specs.declared.record.Kind.{Kind}
 use Rattle.queue_record.specs.declared.record.Selection.{Selection}
 use Rattle.queue_record.specs.declared.record.Queue.{Queue}
+
+abbrev pub withKind : Queue → Kind → Queue
+withKind q k = record { kind = k; domain = q .domain; next = q .next; slots = q .slots; count = q .count; selection = q .selection; failed = q .failed; issued = q .issued; phase = q .phase; bindings = q .bindings; bound = q .bound }
 
 abbrev pub withNext : Queue → ℕ → Queue
 withNext q n = record { kind = q .kind; domain = q .domain; next = n; slots = q .slots; count = q .count; selection = q .selection; failed = q .failed; issued = q .issued; phase = q .phase; bindings = q .bindings; bound = q .bound }

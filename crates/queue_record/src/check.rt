@@ -65,7 +65,6 @@ pub fn slot_fits(failed: bool, issued: bool, number: u64) -> bool
     number != 0
 }
 
-// Whether the record is well formed.
 pub fn well_formed(q: Queue) -> bool
     ensures { λ r. ⌜ r ≡ wellFormed q ⌝ }
 {

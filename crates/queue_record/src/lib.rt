@@ -1,5 +1,5 @@
 // The queue record: its parts, the check that answers whether it is well formed, the openings, the search for the newest
-// waiting token, how many wait, and the record with another selection or phase.
+// waiting token, how many wait, and the record with another kind, selection or phase.
 mod check;
 mod openings;
 mod record;
@@ -25,4 +25,5 @@ pub use search::Found;
 pub use search::newest_place;
 pub use setters::move_to;
 pub use setters::select;
+pub use setters::set_kind;
 pub use tally::waiting_count;

@@ -8,7 +8,7 @@ pub enum Found {
     Missing,
 }
 
-// The highest occupied place.
+// Tokens fill the slots upwards, so the newest has the highest occupied place.
 pub fn newest_place(slots: &[u64]) -> Found
     ensures { λ r. ⌜ r ≡ newest (occupied 0 (now (slots .entry))) ⌝ }
 {

@@ -1,9 +1,32 @@
-// The record with another selection or phase: a field that is an enum is not stored to, so the record is written anew.
+// The record with another kind, selection or phase: a field that is an enum is not stored to, so the record is written anew.
+use crate::record::Kind;
 use crate::record::Queue;
 use crate::record::Selection;
 use stage::Phase;
 ghost use mathlib.Core.Path.{_≡_};
-ghost use Rattle.queue_record.specs.Record.{withSelection, withPhase};
+ghost use Rattle.queue_record.specs.Record.{withKind, withSelection, withPhase};
+
+pub fn set_kind(q: Queue, kind: Kind) -> Queue
+    ensures { λ r. ⌜ r ≡ withKind q kind ⌝ }
+{
+    let slots = q.slots;
+    let selection = q.selection;
+    let phase = q.phase;
+    let bindings = q.bindings;
+    Queue {
+        kind: kind,
+        domain: q.domain,
+        next: q.next,
+        slots: slots,
+        count: q.count,
+        selection: selection,
+        failed: q.failed,
+        issued: q.issued,
+        phase: phase,
+        bindings: bindings,
+        bound: q.bound,
+    }
+}
 
 pub fn select(q: Queue, selection: Selection) -> Queue
     ensures { λ r. ⌜ r ≡ withSelection q selection ⌝ }

@@ -63,7 +63,7 @@ pub fn admit(q: Queue, target: &[u64]) -> StageAnswer
     admit_by(q, matched)
 }
 
-// Without a target.
+// An enum cannot hold the reference to a target, so an admit with none is a call of its own.
 pub fn admit_without(q: Queue) -> StageAnswer
     ensures { λ r. ⌜ r ≡ admitted q false ⌝ }
 {

@@ -21,7 +21,7 @@ pub same-parts : (s t : Ticket) → s .domain ≡ t .domain → s .token ≡ t .
 same-parts s t d k a =
     ap (λ (x : ℕ). made x (s .token) (s .attempt)) d ∙ (ap (λ (x : ℕ). made (t .domain) x (s .attempt)) k ∙ ap (λ (x : ℕ). made (t .domain) (t .token) x) a)
 
-pub same-one : (s t : Ticket) → sameTicket s t ≡ true → s ≡ t
+same-one : (s t : Ticket) → sameTicket s t ≡ true → s ≡ t
 same-one s t h =
     let r : (eqb (s .token) (t .token) && eqb (s .attempt) (t .attempt)) ≡ true = and-right (eqb (s .domain) (t .domain)) _ h in
     same-parts s t (eqb-true _ _ (and-left (eqb (s .domain) (t .domain)) _ h)) (eqb-true _ _ (and-left (eqb (s .token) (t .token)) _ r)) (eqb-true _ _ (and-right (eqb (s .token) (t .token)) _ r))

@@ -51,7 +51,7 @@ fn event_number(event: Event) -> u64
     }
 }
 
-// The phase of a row; there is none past Closed.
+// The phase of a row; a number past 4 counts as Closed.
 pub fn phase_at(number: u64) -> Phase
     ensures { λ r. ⌜ r ≡ phaseAt number ⌝ }
 {
@@ -116,7 +116,7 @@ pub fn cancelled(phase: Phase) -> bool
     }
 }
 
-// Whether two phases are different ones.
+// Two enums are not compared by `==`: their rows in the table are.
 pub fn differ(a: Phase, b: Phase) -> bool
     ensures { λ r. ⌜ r ≡ differs a b ⌝ }
 {
