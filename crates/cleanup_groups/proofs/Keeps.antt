@@ -13,7 +13,7 @@ use Rattle.queue_record.specs.WellFormed.{wellFormed}
 use Rattle.queue_record.specs.Openings.{scopeOf, blank}
 use Rattle.queue_record.specs.declared.record.Queue.{Queue}
 use Rattle.queue_record.specs.declared.search.Found.the-variants.{At}
-use Rattle.queue_record.proofs.Opened.{scope-well-formed}
+use Rattle.queue_record.proofs.Opened.{scope-well-formed, scope-sized}
 use Rattle.queue_steps.specs.Attempts.{retried}
 use Rattle.cleanup_queue.specs.Runs as queue
 use Rattle.cleanup_queue.proofs.Sizes as sizes
@@ -217,7 +217,7 @@ unfolding emptyOf scopeOf
 root-keeps base h =
     let z : base ≡ base + 0 = omega arith in
     means-sound (opening (allFree base 0 false) 0 (scopeOf base 0)) refl
-    (open-sound (allFree base 0 false) refl (all-free-sound base 0 false h (omega arith)) 0 (scopeOf base 0) (omega arith) refl (omega arith) (record { sound = scope-well-formed base 0; domain = z }))
+    (open-sound (allFree base 0 false) refl (all-free-sound base 0 false h (omega arith)) 0 (scopeOf base 0) (omega arith) refl (omega arith) (record { sound = scope-well-formed base 0; domain = z; sized = scope-sized base 0 }))
 
 pub new-keeps : (base : ℕ) → wellGrouped (newOf base .groups) ≡ true
 unfolding newOf

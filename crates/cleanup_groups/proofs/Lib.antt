@@ -17,3 +17,4 @@ pub mod Frames
 pub mod Live
 pub mod Room
 pub mod Gone
+pub mod Says
