@@ -12,14 +12,14 @@ use Rattle.stage.specs.declared.phases.Phase.{Phase}
 use Rattle.stage.specs.declared.phases.Phase.the-variants.{Idle, Pending, Ended, Stopping, Closed}
 use Rattle.stage.proofs.Ways.{and-left, and-right, clash}
 use Rattle.queue_record.specs.Record.{Sized}
-use Rattle.queue_record.specs.WellFormed.{allZero}
+use Rattle.queue_record.specs.WellFormed.{allZero, isSelected}
 use Rattle.queue_record.specs.Openings.{scopeOf, blank}
 use Rattle.queue_record.specs.declared.record.Kind.{Kind}
 use Rattle.queue_record.specs.declared.record.Kind.the-variants.{Scope, Iterator}
 use Rattle.queue_record.specs.declared.record.Selection.{Selection}
 use Rattle.queue_record.specs.declared.record.Selection.the-variants.{Free, Of}
 use Rattle.queue_record.specs.declared.record.Queue.{Queue}
-use Rattle.group_record.specs.Blank.{isScope, isFree, unmarked, unnumbered, isBlank}
+use Rattle.group_record.specs.Blank.{isScope, unmarked, unnumbered, isBlank}
 
 all-zeros : (xs : List ℕ) (n : ℕ) → length xs ≡ n → allZero xs ≡ true → xs ≡ replicate n 0
 all-zeros [] zero l h = refl
@@ -34,7 +34,7 @@ scope-is : (k : Kind) → isScope k ≡ true → k ≡ Scope
 scope-is Scope h = refl
 scope-is Iterator h = clash {b = false} h refl
 
-free-is : (s : Selection) → isFree s ≡ true → s ≡ Free
+free-is : (s : Selection) → not (isSelected s) ≡ true → s ≡ Free
 free-is Free h = refl
 free-is (Of t) h = clash {b = false} h refl
 
@@ -59,8 +59,8 @@ pub blank-only : (q : Queue) → Sized q → isBlank q ≡ true → q ≡ blank
 unfolding blank scopeOf
 blank-only q z h =
     let m₁ : unmarked q ≡ true = and-left (unmarked q) (unnumbered q) h in
-    let m₂ : (isFree (q .selection) && (not (q .failed) && (not (q .issued) && not (differs (q .phase) Ended)))) ≡ true = and-right (isScope (q .kind)) _ m₁ in
-    let m₃ : (not (q .failed) && (not (q .issued) && not (differs (q .phase) Ended))) ≡ true = and-right (isFree (q .selection)) _ m₂ in
+    let m₂ : (not (isSelected (q .selection)) && (not (q .failed) && (not (q .issued) && not (differs (q .phase) Ended)))) ≡ true = and-right (isScope (q .kind)) _ m₁ in
+    let m₃ : (not (q .failed) && (not (q .issued) && not (differs (q .phase) Ended))) ≡ true = and-right (not (isSelected (q .selection))) _ m₂ in
     let m₄ : (not (q .issued) && not (differs (q .phase) Ended)) ≡ true = and-right (not (q .failed)) _ m₃ in
     let n₁ : unnumbered q ≡ true = and-right (unmarked q) (unnumbered q) h in
     let n₂ : (allZero (q .bindings) && (eqb (q .domain) 0 && (eqb (q .next) 0 && (eqb (q .count) 0 && eqb (q .bound) 0)))) ≡ true = and-right (allZero (q .slots)) _ n₁ in
@@ -73,7 +73,7 @@ blank-only q z h =
     (eqb-true (q .next) 0 (and-left (eqb (q .next) 0) _ n₄))
     (all-zeros (q .slots) 64 (z .slots) (and-left (allZero (q .slots)) _ n₁))
     (eqb-true (q .count) 0 (and-left (eqb (q .count) 0) (eqb (q .bound) 0) n₅))
-    (free-is (q .selection) (and-left (isFree (q .selection)) _ m₂))
+    (free-is (q .selection) (and-left (not (isSelected (q .selection))) _ m₂))
     (not-true (q .failed) (and-left (not (q .failed)) _ m₃))
     (not-true (q .issued) (and-left (not (q .issued)) _ m₄))
     (ended-is (q .phase) (and-right (not (q .issued)) _ m₄))

@@ -16,5 +16,5 @@ pub mod Upstream
 pub mod Frames
 pub mod Live
 pub mod Room
-pub mod Gone
+pub mod Counts
 pub mod Says

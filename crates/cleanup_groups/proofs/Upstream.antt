@@ -1,4 +1,5 @@
--- Clauses of upstream's groups that no other file states: ids and marks stay, what an opening gives, what a round leaves
+-- Clauses of upstream's groups that no other file states: a new record, what an opening gives, can_finish, a sealed record, what
+-- a round leaves
 use Prim.Native.Nat.{ℕ, _<_, _≤_}
 use mathlib.Core.Path.{_≡_, refl, sym, ap, _∙_, subst}
 use mathlib.Core.Bool.{true, false, not}

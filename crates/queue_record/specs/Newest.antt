@@ -1,5 +1,6 @@
 -- The newest of some tokens in ascending order: the last one
 use Prim.Native.Nat.{ℕ}
+use mathlib.Core.Bool.{Bool, true, false}
 use mathlib.Core.List.{List, [], _∷_}
 use Rattle.queue_record.specs.declared.search.Found.{Found}
 use Rattle.queue_record.specs.declared.search.Found.the-variants.{At, Missing}
@@ -11,3 +12,7 @@ lastOr found (k ∷ ks) = lastOr (At k) ks
 
 unfoldable pub newest : List ℕ → Found
 newest ks = lastOr Missing ks
+
+abbrev pub isThere : Found → Bool
+isThere (At k) = true
+isThere Missing = false
