@@ -1,5 +1,5 @@
 -- The test for the blank queue is passed by the blank queue alone
-use Prim.Native.Nat.{ℕ, zero, suc}
+use Prim.Native.Nat.{ℕ, zero, suc, _<_}
 use mathlib.Core.Path.{_≡_, refl, ap, _∙_}
 use mathlib.Core.Bool.{Bool, true, false, not, _&&_}
 use mathlib.Core.List.{List, [], _∷_}
@@ -19,6 +19,12 @@ use Rattle.queue_record.specs.declared.record.Kind.the-variants.{Scope, Iterato
 use Rattle.queue_record.specs.declared.record.Selection.{Selection}
 use Rattle.queue_record.specs.declared.record.Selection.the-variants.{Free, Of}
 use Rattle.queue_record.specs.declared.record.Queue.{Queue}
+use Rattle.group_record.specs.Record.{placeAt, queueAt, freePlace}
+use Rattle.group_record.specs.declared.record.Place.{Place}
+use Rattle.group_record.specs.declared.record.Groups.{Groups}
+use Rattle.group_check.specs.WellFormed.{wellGrouped}
+use Rattle.cleanup_groups.specs.Promises.{AllSized}
+use Rattle.cleanup_groups.proofs.Sounds.{sound-means}
 use Rattle.group_record.specs.Blank.{isScope, unmarked, unnumbered, isBlank}
 
 all-zeros : (xs : List ℕ) (n : ℕ) → length xs ≡ n → allZero xs ≡ true → xs ≡ replicate n 0
@@ -79,3 +85,10 @@ blank-only q z h =
     (ended-is (q .phase) (and-right (not (q .issued)) _ m₄))
     (all-zeros (q .bindings) 16 (z .bindings) (and-left (allZero (q .bindings)) _ n₂))
     (eqb-true (q .bound) 0 (and-right (eqb (q .count) 0) (eqb (q .bound) 0) n₅))
+
+-- so a free place of a well-formed record is the free place, id and queue
+same-place : {n n′ : ℕ} {b b′ : Bool} {q q′ : Queue} → n ≡ n′ → b ≡ b′ → q ≡ q′ → _≡_ {A = Place} (record { id = n; live = b; queue = q }) (record { id = n′; live = b′; queue = q′ })
+same-place n b q = rw (n, b, q)
+
+pub free-blank : (g : Groups) (i : ℕ) → length (g .places) ≡ 16 → AllSized g → wellGrouped g ≡ true → i < 16 → placeAt g i .live ≡ false → placeAt g i ≡ freePlace
+free-blank g i l z w k f = let s = sound-means g l w .free i k f in same-place (s .0) f (blank-only (queueAt g i) (z i k) (s .1))

@@ -113,7 +113,7 @@ module _ (g : Groups) (l : length (g .places) ≡ 16) (s : Sound g) where
   })
 
 -- ---- all places free
-free-there : (n i : ℕ) → i < n → getD (replicate n freePlace) i nowhere ≡ freePlace
+pub free-there : (n i : ℕ) → i < n → getD (replicate n freePlace) i nowhere ≡ freePlace
 free-there zero i h = absurd (omega arith)
 free-there (suc n) zero h = refl
 free-there (suc n) (suc i) h = free-there n i (omega arith)

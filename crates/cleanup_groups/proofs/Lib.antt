@@ -3,6 +3,7 @@ pub mod Sounds
 pub mod ByCase
 pub mod Placed
 pub mod Keeps
+pub mod Sizes
 pub mod Ids
 pub mod Asked
 pub mod Drains
