@@ -19,3 +19,4 @@ pub mod Live
 pub mod Room
 pub mod Counts
 pub mod Says
+pub mod SaysById

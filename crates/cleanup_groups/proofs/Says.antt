@@ -60,6 +60,11 @@ pub refusals-say : (n : ℕ) → (addedSays (Added.Refused n) ≡ says n []) × 
 refusals-say n = (refl, refl, refl, refl)
 
 -- ---- and the number is not 0, which would say done
+-- a yes or a no is no refusal
+pub never : (b : Bool) → Numbered Told.Refused (yesOrNo b)
+never true n e z = let y : _≡_ {A = ℕ} 0 1 = cc in omega arith
+never false n e z = let y : _≡_ {A = ℕ} 0 1 = cc in omega arith
+
 pub new-numbered : (base : ℕ) → Numbered Opened.Refused (newOf base .answer)
 unfolding newOf
 new-numbered base = if-by (λ (r : NewAnswer). Numbered Opened.Refused (r .answer)) (ltb lastBase base) _ _ (λ _ n e z. let y : 19 ≡ n = cc in omega arith) (λ _ n e z. let y : _≡_ {A = ℕ} 0 1 = cc in omega arith)
@@ -86,10 +91,6 @@ module _ (g : Groups) where
 
   pub len-numbered : Numbered LenTold.Refused (lenOf g)
   len-numbered = if-by (λ (t : LenTold). Numbered LenTold.Refused t) (not (wellGrouped g)) _ _ (λ _ n e z. let y : 1 ≡ n = cc in omega arith) (λ _ n e z. let y : _≡_ {A = ℕ} 0 1 = cc in omega arith)
-
-  never : (b : Bool) → Numbered Told.Refused (yesOrNo b)
-  never true n e z = let y : _≡_ {A = ℕ} 0 1 = cc in omega arith
-  never false n e z = let y : _≡_ {A = ℕ} 0 1 = cc in omega arith
 
   -- every yes-or-no call of the whole record is a toldOf
   pub whole-numbered : (b : Bool) → Numbered Told.Refused (toldOf g b)
