@@ -49,12 +49,12 @@ by-spot P f (Spot.Refused n) refused there = refused n refl
 by-spot P f (Spot.At i) refused there = there i refl
 
 -- by a check that may refuse
-pub by-gate : {A : Type 0} (P : A → Type 0) (f : Opened → A) (o : Opened) → ((n : ℕ) → o ≡ Opened.Refused n → P (f (Opened.Refused n))) → (o ≡ Open → P (f Open)) → P (f o)
+by-gate : {A : Type 0} (P : A → Type 0) (f : Opened → A) (o : Opened) → ((n : ℕ) → o ≡ Opened.Refused n → P (f (Opened.Refused n))) → (o ≡ Open → P (f Open)) → P (f o)
 by-gate P f (Opened.Refused n) refused go-on = refused n refl
 by-gate P f Open refused go-on = go-on refl
 
 -- ---- why a call is refused: never with 0
-pub gate-numbered : (g : Groups) → Numbered Opened.Refused (unsealed g)
+gate-numbered : (g : Groups) → Numbered Opened.Refused (unsealed g)
 gate-numbered g =
     if-by (λ (o : Opened). Numbered Opened.Refused o) (not (wellGrouped g)) _ _ (λ _ n e z. let y : 1 ≡ n = cc in omega arith)
     (λ _. if-by (λ (o : Opened). Numbered Opened.Refused o) (g .sealed) _ _ (λ _ n e z. let y : 12 ≡ n = cc in omega arith) (λ _ n e z. let y : _≡_ {A = ℕ} 0 1 = cc in omega arith))

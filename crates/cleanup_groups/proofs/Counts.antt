@@ -35,7 +35,7 @@ count-head p ps = go (p .live)
     go false = omega arith
 
 -- another place at i: the count changes by the marks of the two
-pub count-set : (ps : List Place) (i : ℕ) (p : Place) → i < length ps → liveCount (set ps i p) + one (getD ps i nowhere .live) ≡ liveCount ps + one (p .live)
+count-set : (ps : List Place) (i : ℕ) (p : Place) → i < length ps → liveCount (set ps i p) + one (getD ps i nowhere .live) ≡ liveCount ps + one (p .live)
 count-set [] i p l = absurd (omega arith)
 count-set (q ∷ ps) zero p l = let a = count-head p ps in let b = count-head q ps in omega arith
 count-set (q ∷ ps) (suc i) p l = let r = count-set ps i p (omega arith) in let a = count-head q ps in let b = count-head q (set ps i p) in omega arith
