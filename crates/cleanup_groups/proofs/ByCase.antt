@@ -1,4 +1,4 @@
--- Each call by its cases: refused, never with 0, or done; and by what it leaves: the record as it was, one queue stepped, a group more, a group less, none, or all retried
+-- Each call by its cases: refused, never with 0, or done; and every call by the record that it leaves
 use Prim.Native.Nat.{ℕ, _+_, _≤_}
 use mathlib.Core.Path.{_≡_, refl}
 use mathlib.Core.Bool.{true, false, not}

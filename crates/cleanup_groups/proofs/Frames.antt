@@ -1,4 +1,4 @@
--- A call on an id changes one queue and nothing else of the record: base, next, seal, marks and ids stay
+-- What stays: a call on an id changes one queue alone; the base and a seal stay for good
 use Prim.Native.Nat.{ℕ, _<_}
 use mathlib.Core.Path.{_≡_, refl, sym, ap, _∙_, subst}
 use mathlib.Core.Bool.{true}

@@ -1,16 +1,18 @@
--- What the groups' own answers say, number and values: the id, the count or no value; a refusal a number alone, never 0
-use Prim.Native.Nat.{ℕ}
-use mathlib.Core.Path.{_≡_, refl, ap}
+-- What the groups' answers say, number and values: id, count, yes or no, domain, or no value; a refusal a number alone, never 0
+use Prim.Native.Nat.{ℕ, _+_, _<_, _≤_}
+use mathlib.Core.Path.{_≡_, refl, ap, _∙_}
 use mathlib.Core.Bool.{Bool, true, false, not}
 use mathlib.Core.List.{List, [], _∷_}
 use native.Mathlib.Omega.{arith}
 use lib.Dec.{ltb}
+use lib.ListN.{length}
+use Rattle.stage.specs.Choice.{if_then_else_}
 use Rattle.stage.proofs.Ways.{if-by, miss}
 use Rattle.queue_record.specs.Refusals.{done}
 use Rattle.queue_record.specs.declared.openings.Opened.{Opened}
 use Rattle.queue_questions.specs.Questions.{yesOrNo}
 use Rattle.queue_questions.specs.declared.questions.Told.{Told}
-use Rattle.cleanup_queue.specs.Answers.{says}
+use Rattle.cleanup_queue.specs.Answers.{says, openedSays, toldSays, domainSays}
 use Rattle.group_record.specs.declared.record.Groups.{Groups}
 use Rattle.group_check.specs.WellFormed.{lastBase, wellGrouped}
 use Rattle.group_check.specs.Count.{liveCount}
@@ -19,6 +21,7 @@ use Rattle.group_check.specs.declared.ids.Got.{Got}
 use Rattle.group_check.specs.declared.ids.GetAnswer.{GetAnswer}
 use Rattle.group_survey.specs.Whole.{toldOf, retriesAll, lenOf}
 use Rattle.group_survey.specs.declared.whole.LenTold.{LenTold}
+use Rattle.group_questions.specs.ById.{domainIn}
 use Rattle.group_lives.specs.Openings.{newOf, addedScope, addedIterator}
 use Rattle.group_lives.specs.Endings.{removed, sealedIn}
 use Rattle.group_lives.specs.declared.openings.NewAnswer.{NewAnswer}
@@ -26,13 +29,22 @@ use Rattle.group_lives.specs.declared.openings.Added.{Added}
 use Rattle.group_lives.specs.declared.openings.AddAnswer.{AddAnswer}
 use Rattle.group_lives.specs.declared.endings.Closed.{Closed}
 use Rattle.group_lives.specs.declared.endings.CloseAnswer.{CloseAnswer}
-use Rattle.group_rounds.specs.Rounds.{retriedAll}
+use Rattle.group_rounds.specs.Rounds.{allRetried, roundDone, retriedAll}
 use Rattle.group_rounds.specs.declared.rounds.RetryAllAnswer.{RetryAllAnswer}
 use Rattle.cleanup_groups.specs.Answers.{addedSays, closedSays, lenSays, gotSays}
-use Rattle.cleanup_groups.specs.Promises.{Numbered}
+use Rattle.cleanup_groups.specs.Promises.{LiveAt, idAt, Numbered}
 use Rattle.cleanup_groups.proofs.ByCase.{by-spot, spot-numbered, scope-by, iterator-by, close-by, seal-by}
+use Rattle.cleanup_groups.proofs.Live.{domain-as}
+use Rattle.cleanup_groups.proofs.Upstream.{new-root}
 
 -- ---- done: 0, and the values
+yes-says : (b : Bool) → toldSays (yesOrNo b) ≡ says done ((if b then 1 else 0) ∷ [])
+yes-says true = refl
+yes-says false = refl
+
+pub new-says : (base : ℕ) → base ≤ lastBase → openedSays (newOf base .answer) ≡ says done []
+new-says base h = ap openedSays (new-root base h .0)
+
 module _ (g : Groups) where
   -- an opening says the id that was next
   pub scope-says : (n : ℕ) → addedScope g .answer ≡ Added.Id n → addedSays (addedScope g .answer) ≡ says done (g .next ∷ [])
@@ -45,6 +57,18 @@ module _ (g : Groups) where
   pub len-says : wellGrouped g ≡ true → lenSays (lenOf g) ≡ says done (liveCount (g .places) ∷ [])
   len-says w = ap lenSays (miss (LenTold.Refused 1) (ap not w))
 
+  -- a question to the whole record: 1 is yes, 0 is no
+  pub whole-says : (b : Bool) → wellGrouped g ≡ true → toldSays (toldOf g b) ≡ says done ((if b then 1 else 0) ∷ [])
+  whole-says b w = ap toldSays (miss (Told.Refused 1) (ap not w)) ∙ yes-says b
+
+  pub retry-all-says : wellGrouped g ≡ true → toldSays (retriedAll g .answer) ≡ says done ((if retriesAll g then 1 else 0) ∷ [])
+  unfolding retriedAll
+  retry-all-says w = ap (λ (r : RetryAllAnswer). toldSays (r .answer)) (miss (roundDone (Told.Refused 1) g) (ap not w)) ∙ go (retriesAll g)
+    where
+      go : (b : Bool) → toldSays ((if not b then roundDone Told.No g else roundDone Told.Yes (allRetried g)) .answer) ≡ says done ((if b then 1 else 0) ∷ [])
+      go true = refl
+      go false = refl
+
   -- get has its queue beside the answer; close and seal have no value
   pub get-says : (id : ℕ) → got g id .answer ≡ Got.Group → gotSays (got g id .answer) ≡ says done []
   get-says id h = ap gotSays h
@@ -54,6 +78,10 @@ module _ (g : Groups) where
 
   pub seal-says : sealedIn g .answer ≡ Closed.Done → closedSays (sealedIn g .answer) ≡ says done []
   seal-says h = ap closedSays h
+
+-- a live group's domain is base plus id
+pub domain-says : (g : Groups) (id i : ℕ) → length (g .places) ≡ 16 → wellGrouped g ≡ true → i < 16 → LiveAt g i → idAt g i ≡ id → domainSays (domainIn g id) ≡ says done ((g .base + id) ∷ [])
+domain-says g id i l w k a e = ap domainSays (domain-as g id i l w k a e)
 
 -- ---- refused: a number and no value
 pub refusals-say : (n : ℕ) → (addedSays (Added.Refused n) ≡ says n []) × (closedSays (Closed.Refused n) ≡ says n []) × (lenSays (LenTold.Refused n) ≡ says n []) × (gotSays (Got.Refused n) ≡ says n [])
