@@ -24,7 +24,7 @@ use Rattle.group_record.specs.declared.questions.Question.the-variants.{Holds, 
 use Rattle.group_survey.specs.Whole.{toldOf, containsTold, hasPendingOf, hasIssuedOf, hasFailedOf, retriesAll, canRetryAllOf, canFinishOf, canSealOf}
 use Rattle.cleanup_groups.specs.Promises.{LiveAt, idAt, IsLive, SomeLive, EveryLive}
 use Rattle.cleanup_groups.proofs.Every.{none-each, each-none, some-one, one-some}
-use Rattle.cleanup_groups.proofs.Sounds.{says-live, says-free, says-no}
+use Rattle.cleanup_groups.proofs.Sounds.{says-live, says-free, says-no, sound-means}
 
 -- ---- a question answered yes
 pub told-yes : (g : Groups) (b : Bool) → toldOf g b ≡ Yes → (wellGrouped g ≡ true) × (b ≡ true)
@@ -50,7 +50,7 @@ module _ (g : Groups) (l : length (g .places) ≡ 16) (question : Question) (tar
       go true e = e
       go false e = clash h (says-free question target (placeAt g i) e ∙ only (idAt g i) (queueAt g i))
 
-  pub some-means : someYes g question target ≡ true → SomeLive g asks
+  some-means : someYes g question target ≡ true → SomeLive g asks
   some-means h =
       let w = some-one (asksOf question target) (g .places) h in
       let k : w .0 < length (g .places) = w .1 in
@@ -114,6 +114,10 @@ module _ (g : Groups) (l : length (g .places) ≡ 16) where
 
   pub means-seal : wellGrouped g ≡ true → EveryLive g (λ id q. drained q) → canSealOf g ≡ Yes
   means-seal w f = yes-told g (not (someYes g Undrained [])) w (ap not (means-none g l Undrained [] (λ _ _. refl) (λ i k a. ap not (ap not (f i k a)))))
+
+  -- and so of a sealed record, which has none live, though seal gives 12
+  pub sealed-may-seal : wellGrouped g ≡ true → g .sealed ≡ true → canSealOf g ≡ Yes
+  sealed-may-seal w s = means-seal w (λ i k a. clash a (sound-means g l w .sealed s i k))
 
   -- contains: the id is live
   pub contains-means : (id : ℕ) → containsTold g id ≡ Yes → IsLive g id

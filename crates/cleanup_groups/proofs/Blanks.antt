@@ -1,5 +1,5 @@
 -- The test for the blank queue is passed by the blank queue alone
-use Prim.Native.Nat.{ℕ, zero, suc}
+use Prim.Native.Nat.{ℕ, zero, suc, _<_}
 use mathlib.Core.Path.{_≡_, refl, ap, _∙_}
 use mathlib.Core.Bool.{Bool, true, false, not, _&&_}
 use mathlib.Core.List.{List, [], _∷_}
@@ -12,14 +12,20 @@ use Rattle.stage.specs.declared.phases.Phase.{Phase}
 use Rattle.stage.specs.declared.phases.Phase.the-variants.{Idle, Pending, Ended, Stopping, Closed}
 use Rattle.stage.proofs.Ways.{and-left, and-right, clash}
 use Rattle.queue_record.specs.Record.{Sized}
-use Rattle.queue_record.specs.WellFormed.{allZero}
+use Rattle.queue_record.specs.WellFormed.{allZero, isSelected}
 use Rattle.queue_record.specs.Openings.{scopeOf, blank}
 use Rattle.queue_record.specs.declared.record.Kind.{Kind}
 use Rattle.queue_record.specs.declared.record.Kind.the-variants.{Scope, Iterator}
 use Rattle.queue_record.specs.declared.record.Selection.{Selection}
 use Rattle.queue_record.specs.declared.record.Selection.the-variants.{Free, Of}
 use Rattle.queue_record.specs.declared.record.Queue.{Queue}
-use Rattle.group_record.specs.Blank.{isScope, isFree, unmarked, unnumbered, isBlank}
+use Rattle.group_record.specs.Record.{placeAt, queueAt, freePlace}
+use Rattle.group_record.specs.declared.record.Place.{Place}
+use Rattle.group_record.specs.declared.record.Groups.{Groups}
+use Rattle.group_check.specs.WellFormed.{wellGrouped}
+use Rattle.cleanup_groups.specs.Promises.{AllSized}
+use Rattle.cleanup_groups.proofs.Sounds.{sound-means}
+use Rattle.group_record.specs.Blank.{isScope, unmarked, unnumbered, isBlank}
 
 all-zeros : (xs : List ℕ) (n : ℕ) → length xs ≡ n → allZero xs ≡ true → xs ≡ replicate n 0
 all-zeros [] zero l h = refl
@@ -34,7 +40,7 @@ scope-is : (k : Kind) → isScope k ≡ true → k ≡ Scope
 scope-is Scope h = refl
 scope-is Iterator h = clash {b = false} h refl
 
-free-is : (s : Selection) → isFree s ≡ true → s ≡ Free
+free-is : (s : Selection) → not (isSelected s) ≡ true → s ≡ Free
 free-is Free h = refl
 free-is (Of t) h = clash {b = false} h refl
 
@@ -59,8 +65,8 @@ pub blank-only : (q : Queue) → Sized q → isBlank q ≡ true → q ≡ blank
 unfolding blank scopeOf
 blank-only q z h =
     let m₁ : unmarked q ≡ true = and-left (unmarked q) (unnumbered q) h in
-    let m₂ : (isFree (q .selection) && (not (q .failed) && (not (q .issued) && not (differs (q .phase) Ended)))) ≡ true = and-right (isScope (q .kind)) _ m₁ in
-    let m₃ : (not (q .failed) && (not (q .issued) && not (differs (q .phase) Ended))) ≡ true = and-right (isFree (q .selection)) _ m₂ in
+    let m₂ : (not (isSelected (q .selection)) && (not (q .failed) && (not (q .issued) && not (differs (q .phase) Ended)))) ≡ true = and-right (isScope (q .kind)) _ m₁ in
+    let m₃ : (not (q .failed) && (not (q .issued) && not (differs (q .phase) Ended))) ≡ true = and-right (not (isSelected (q .selection))) _ m₂ in
     let m₄ : (not (q .issued) && not (differs (q .phase) Ended)) ≡ true = and-right (not (q .failed)) _ m₃ in
     let n₁ : unnumbered q ≡ true = and-right (unmarked q) (unnumbered q) h in
     let n₂ : (allZero (q .bindings) && (eqb (q .domain) 0 && (eqb (q .next) 0 && (eqb (q .count) 0 && eqb (q .bound) 0)))) ≡ true = and-right (allZero (q .slots)) _ n₁ in
@@ -73,9 +79,16 @@ blank-only q z h =
     (eqb-true (q .next) 0 (and-left (eqb (q .next) 0) _ n₄))
     (all-zeros (q .slots) 64 (z .slots) (and-left (allZero (q .slots)) _ n₁))
     (eqb-true (q .count) 0 (and-left (eqb (q .count) 0) (eqb (q .bound) 0) n₅))
-    (free-is (q .selection) (and-left (isFree (q .selection)) _ m₂))
+    (free-is (q .selection) (and-left (not (isSelected (q .selection))) _ m₂))
     (not-true (q .failed) (and-left (not (q .failed)) _ m₃))
     (not-true (q .issued) (and-left (not (q .issued)) _ m₄))
     (ended-is (q .phase) (and-right (not (q .issued)) _ m₄))
     (all-zeros (q .bindings) 16 (z .bindings) (and-left (allZero (q .bindings)) _ n₂))
     (eqb-true (q .bound) 0 (and-right (eqb (q .count) 0) (eqb (q .bound) 0) n₅))
+
+-- so a free place of a well-formed record is the free place, id and queue
+same-place : {n n′ : ℕ} {b b′ : Bool} {q q′ : Queue} → n ≡ n′ → b ≡ b′ → q ≡ q′ → _≡_ {A = Place} (record { id = n; live = b; queue = q }) (record { id = n′; live = b′; queue = q′ })
+same-place n b q = rw (n, b, q)
+
+pub free-blank : (g : Groups) (i : ℕ) → length (g .places) ≡ 16 → AllSized g → wellGrouped g ≡ true → i < 16 → placeAt g i .live ≡ false → placeAt g i ≡ freePlace
+free-blank g i l z w k f = let s = sound-means g l w .free i k f in same-place (s .0) f (blank-only (queueAt g i) (z i k) (s .1))

@@ -1,40 +1,46 @@
--- Each call by what it leaves: the record as it was, one queue stepped, a group more, a group less, none, or all retried
-use Prim.Native.Nat.{ℕ, _+_}
+-- Each call by its cases: refused, never with 0, or done; and every call by the record that it leaves
+use Prim.Native.Nat.{ℕ, _+_, _≤_}
 use mathlib.Core.Path.{_≡_, refl}
 use mathlib.Core.Bool.{true, false, not}
 use mathlib.Core.List.{List, []}
 use native.Mathlib.Omega.{arith}
 use borrow.Author.Tests.{not-false, ltb-false}
-use lib.Dec.{ltb}
+use lib.Dec.{leb, ltb}
 use lib.ListN.{length}
 use Rattle.stage.proofs.Ways.{if-by}
+use Rattle.queue_record.specs.Refusals.{done}
+use Rattle.queue_record.specs.Record.{Sized}
 use Rattle.queue_record.specs.WellFormed.{wellFormed}
+use Rattle.queue_record.specs.declared.search.Found.{Found}
+use Rattle.queue_record.specs.declared.search.Found.the-variants.{At, Missing}
 use Rattle.queue_record.specs.Openings.{scopeOf, iteratorOf, iteratorOpened}
 use Rattle.queue_record.specs.declared.record.Queue.{Queue}
 use Rattle.queue_record.specs.declared.openings.Opened.{Opened}
 use Rattle.queue_record.specs.declared.openings.Opened.the-variants.{Open}
 use Rattle.queue_record.specs.declared.openings.OpenAnswer.{OpenAnswer}
-use Rattle.queue_record.proofs.Opened.{scope-well-formed, iterator-well-formed}
+use Rattle.queue_record.proofs.Opened.{scope-well-formed, scope-sized, iterator-well-formed, iterator-sized}
 use Rattle.queue_questions.specs.Questions.{matches}
 use Rattle.cleanup_queue.specs.Runs as queue
 use Rattle.group_record.specs.Record.{queueAt, freePlace, withPlace, withQueue, opening, sealing}
 use Rattle.group_record.specs.Questions.{drained}
-use Rattle.group_record.specs.Scan.{someYes}
-use Rattle.group_check.specs.WellFormed.{wellGrouped}
-use Rattle.group_check.specs.Ids.{spotOf}
+use Rattle.group_record.specs.Scan.{firstYes, someYes}
+use Rattle.group_check.specs.WellFormed.{ids, wellGrouped}
+use Rattle.group_check.specs.Ids.{spotAt, spotOf}
 use Rattle.group_record.specs.declared.record.Groups.{Groups}
-use Rattle.group_record.specs.declared.questions.Question.the-variants.{Undrained}
+use Rattle.group_record.specs.declared.questions.Question.the-variants.{Free, Holds, Undrained}
 use Rattle.group_check.specs.declared.ids.Spot.{Spot}
 use Rattle.group_survey.specs.Whole.{retriesAll}
-use Rattle.group_lives.specs.Openings.{unsealed, roomOf, addedAt, added, addedScopeBy, addedScope, addedQueue, addedIteratorBy, addedIterator}
-use Rattle.group_lives.specs.Endings.{removedAt, removed, sealedBy, sealedIn}
+use Rattle.group_lives.specs.Openings.{unsealed, roomAt, roomOf, nextDomain, refusedAdd, addedAt, added, addedScopeBy, addedScope, addedQueue, addedIteratorBy, addedIterator}
+use Rattle.group_lives.specs.Endings.{refusedClose, removedAt, removed, sealedBy, sealedIn}
 use Rattle.group_lives.specs.declared.openings.AddAnswer.{AddAnswer}
+use Rattle.group_lives.specs.declared.endings.Closed.the-variants.{Done}
 use Rattle.group_lives.specs.declared.endings.CloseAnswer.{CloseAnswer}
 use Rattle.group_steps.specs.Births.{registeredAt, registeredIn, landedAt, landedIn}
 use Rattle.group_steps.specs.Attempts.{poppedAt, poppedIn, completedAt, completedIn, retriedAt, retriedIn}
 use Rattle.group_stages.specs.Stages.{admittedAt, admittedIn, admittedAtWithout, admittedInWithout, endedAt, endedIn, cancelledAt, cancelledIn}
 use Rattle.group_rounds.specs.Rounds.{allRetried, retriedAll}
 use Rattle.group_rounds.specs.declared.rounds.RetryAllAnswer.{RetryAllAnswer}
+use Rattle.cleanup_groups.specs.Promises.{Numbered}
 use Rattle.cleanup_groups.specs.Runs.{Call, addScope, addIterator, remove, seal, register, land, pop, complete, retry, admit, admitWithout, end, cancel, retryAll, after}
 
 -- by where an id is: refused, or at a place
@@ -43,14 +49,66 @@ by-spot P f (Spot.Refused n) refused there = refused n refl
 by-spot P f (Spot.At i) refused there = there i refl
 
 -- by a check that may refuse
-pub by-gate : {A : Type 0} (P : A → Type 0) (f : Opened → A) (o : Opened) → ((n : ℕ) → o ≡ Opened.Refused n → P (f (Opened.Refused n))) → (o ≡ Open → P (f Open)) → P (f o)
+by-gate : {A : Type 0} (P : A → Type 0) (f : Opened → A) (o : Opened) → ((n : ℕ) → o ≡ Opened.Refused n → P (f (Opened.Refused n))) → (o ≡ Open → P (f Open)) → P (f o)
 by-gate P f (Opened.Refused n) refused go-on = refused n refl
 by-gate P f Open refused go-on = go-on refl
 
+-- ---- why a call is refused: never with 0
+gate-numbered : (g : Groups) → Numbered Opened.Refused (unsealed g)
+gate-numbered g =
+    if-by (λ (o : Opened). Numbered Opened.Refused o) (not (wellGrouped g)) _ _ (λ _ n e z. let y : 1 ≡ n = cc in omega arith)
+    (λ _. if-by (λ (o : Opened). Numbered Opened.Refused o) (g .sealed) _ _ (λ _ n e z. let y : 12 ≡ n = cc in omega arith) (λ _ n e z. let y : _≡_ {A = ℕ} 0 1 = cc in omega arith))
+
+pub spot-numbered : (g : Groups) (id : ℕ) → Numbered Spot.Refused (spotOf g id)
+unfolding spotOf
+spot-numbered g id = if-by (λ (s : Spot). Numbered Spot.Refused s) (not (wellGrouped g)) _ _ (λ _ n e z. let y : 1 ≡ n = cc in omega arith) (λ _. go (firstYes g (Holds id) []))
+  where
+    go : (f : Found) → Numbered Spot.Refused (spotAt f)
+    go Missing n e z = let y : 10 ≡ n = cc in omega arith
+    go (At i) n e z = let y : _≡_ {A = ℕ} 0 1 = cc in omega arith
+
+room-numbered : (g : Groups) → Numbered Spot.Refused (roomOf g)
+room-numbered g = go (firstYes g Free [])
+  where
+    go : (f : Found) → Numbered Spot.Refused (roomAt g f)
+    go Missing = λ n e z. let y : 11 ≡ n = cc in omega arith
+    go (At i) = if-by (λ (s : Spot). Numbered Spot.Refused s) (leb ids (g .next)) _ _ (λ _ n e z. let y : 19 ≡ n = cc in omega arith) (λ _ n e z. let y : _≡_ {A = ℕ} 0 1 = cc in omega arith)
+
+-- ---- an opening: refused, or a queue put into the lowest free place
+module _ (P : AddAnswer → Type 0) (g : Groups) (refused : (n : ℕ) → (n ≡ done → ⊥) → P (refusedAdd g n)) where
+  put-by : (q : Queue) → ((i : ℕ) → roomOf g ≡ Spot.At i → P (addedAt g q (Spot.At i))) → P (added g q)
+  put-by q there = by-spot P (addedAt g q) (roomOf g) (λ n e. refused n (room-numbered g n e)) there
+
+  pub scope-by : ((i : ℕ) → unsealed g ≡ Open → roomOf g ≡ Spot.At i → P (addedAt g (scopeOf (nextDomain g) 0) (Spot.At i))) → P (addedScope g)
+  unfolding addedScope
+  scope-by there = by-gate P (addedScopeBy g) (unsealed g) (λ n e. refused n (gate-numbered g n e)) (λ u. put-by (scopeOf (nextDomain g) 0) (λ i e. there i u e))
+
+  pub iterator-by : (bindings : List ℕ) → ((i : ℕ) → unsealed g ≡ Open → length bindings ≤ 16 → roomOf g ≡ Spot.At i → P (addedAt g (iteratorOf (nextDomain g) 0 bindings) (Spot.At i))) → P (addedIterator g bindings)
+  unfolding addedIterator iteratorOpened
+  iterator-by bindings there =
+      by-gate P (addedIteratorBy g bindings) (unsealed g) (λ n e. refused n (gate-numbered g n e))
+      (λ u. if-by (λ (o : OpenAnswer). P (addedQueue g (o .queue) (o .answer))) (ltb 16 (length bindings)) _ _ (λ _. refused 14 (λ z. omega arith)) (λ b. put-by (iteratorOf (nextDomain g) 0 bindings) (λ i e. there i u (ltb-false _ _ b) e)))
+
+-- ---- close and seal: refused, or done
+module _ (P : CloseAnswer → Type 0) (g : Groups) (refused : (n : ℕ) → (n ≡ done → ⊥) → P (refusedClose g n)) where
+  pub close-by : (id : ℕ) → ((i : ℕ) → spotOf g id ≡ Spot.At i → drained (queueAt g i) ≡ true → P (record { answer = Done; groups = withPlace g i freePlace })) → P (removed g id)
+  unfolding removed
+  close-by id there =
+      by-spot P (removedAt g) (spotOf g id) (λ n e. refused n (spot-numbered g id n e))
+      (λ i e. if-by P (not (drained (queueAt g i))) _ _ (λ _. refused 13 (λ z. omega arith)) (λ d. there i e (not-false _ d)))
+
+  pub seal-by : (unsealed g ≡ Open → someYes g Undrained [] ≡ false → P (record { answer = Done; groups = sealing g })) → P (sealedIn g)
+  unfolding sealedIn
+  seal-by shut =
+      by-gate P (sealedBy g) (unsealed g) (λ n e. refused n (gate-numbered g n e))
+      (λ u. if-by P (someYes g Undrained []) _ _ (λ _. refused 13 (λ z. omega arith)) (λ d. shut u d))
+
+-- ---- every call, by the record that it leaves
 -- what an opened queue is like
 pub record New (g : Groups) (q : Queue) : Type 0 where
   pub sound : wellFormed q ≡ true
   pub domain : q .domain ≡ g .base + g .next
+  pub sized : Sized q
 
 module _ (P : Groups → Type 0) (g : Groups)
     (stay : P g)
@@ -59,23 +117,12 @@ module _ (P : Groups → Type 0) (g : Groups)
     (close : (id i : ℕ) → spotOf g id ≡ Spot.At i → drained (queueAt g i) ≡ true → P (withPlace g i freePlace))
     (shut : unsealed g ≡ Open → someYes g Undrained [] ≡ false → P (sealing g))
     (round : wellGrouped g ≡ true → retriesAll g ≡ true → P (allRetried g)) where
-  put-in : (q : Queue) → unsealed g ≡ Open → New g q → P (added g q .groups)
-  put-in q u n = by-spot (λ (r : AddAnswer). P (r .groups)) (addedAt g q) (roomOf g) (λ _ _. stay) (λ i e. grow i q u e n)
-
-  iterator-new : (bindings : List ℕ) → iteratorOpened (g .base + g .next) 0 bindings .answer ≡ Open → New g (iteratorOpened (g .base + g .next) 0 bindings .queue)
-  unfolding iteratorOpened iteratorOf
-  iterator-new bindings =
-      if-by (λ (r : OpenAnswer). r .answer ≡ Open → New g (r .queue)) (ltb 16 (length bindings)) _ _ (λ _ h. let z : _≡_ {A = ℕ} 0 1 = cc in absurd (omega arith))
-      (λ e h. record { sound = iterator-well-formed (g .base + g .next) 0 bindings (ltb-false _ _ e); domain = refl })
-
   pub call-by : (c : Call) → P (after g c)
-  unfolding addedScope addedIterator removed sealedIn registeredIn landedIn poppedIn completedIn retriedIn admittedIn admittedInWithout endedIn cancelledIn retriedAll scopeOf
-  call-by addScope = by-gate (λ (r : AddAnswer). P (r .groups)) (addedScopeBy g) (unsealed g) (λ _ _. stay) (λ u. put-in _ u (record { sound = scope-well-formed (g .base + g .next) 0; domain = refl }))
-  call-by (addIterator bindings) =
-      by-gate (λ (r : AddAnswer). P (r .groups)) (addedIteratorBy g bindings) (unsealed g) (λ _ _. stay)
-      (λ u. by-gate (λ (r : AddAnswer). P (r .groups)) (addedQueue g (iteratorOpened (g .base + g .next) 0 bindings .queue)) (iteratorOpened (g .base + g .next) 0 bindings .answer) (λ _ _. stay) (λ o. put-in _ u (iterator-new bindings o)))
-  call-by (remove id) = by-spot (λ (r : CloseAnswer). P (r .groups)) (removedAt g) (spotOf g id) (λ _ _. stay) (λ i e. if-by (λ (r : CloseAnswer). P (r .groups)) (not (drained (queueAt g i))) _ _ (λ _. stay) (λ d. close id i e (not-false _ d)))
-  call-by seal = by-gate (λ (r : CloseAnswer). P (r .groups)) (sealedBy g) (unsealed g) (λ _ _. stay) (λ u. if-by (λ (r : CloseAnswer). P (r .groups)) (someYes g Undrained []) _ _ (λ _. stay) (λ d. shut u d))
+  unfolding registeredIn landedIn poppedIn completedIn retriedIn admittedIn admittedInWithout endedIn cancelledIn retriedAll scopeOf iteratorOf
+  call-by addScope = scope-by (λ (r : AddAnswer). P (r .groups)) g (λ _ _. stay) (λ i u e. grow i _ u e (record { sound = scope-well-formed (nextDomain g) 0; domain = refl; sized = scope-sized (nextDomain g) 0 }))
+  call-by (addIterator bindings) = iterator-by (λ (r : AddAnswer). P (r .groups)) g (λ _ _. stay) bindings (λ i u b e. grow i _ u e (record { sound = iterator-well-formed (nextDomain g) 0 bindings b; domain = refl; sized = iterator-sized (nextDomain g) 0 bindings b }))
+  call-by (remove id) = close-by (λ (r : CloseAnswer). P (r .groups)) g (λ _ _. stay) id (λ i e d. close id i e d)
+  call-by seal = seal-by (λ (r : CloseAnswer). P (r .groups)) g (λ _ _. stay) shut
   call-by (register id n) = by-spot P (λ s. registeredAt g n s .groups) (spotOf g id) (λ _ _. stay) (λ i e. step id i e (queue.register n))
   call-by (land id n) = by-spot P (λ s. landedAt g n s .groups) (spotOf g id) (λ _ _. stay) (λ i e. step id i e (queue.land n))
   call-by (pop id) = by-spot P (λ s. poppedAt g s .groups) (spotOf g id) (λ _ _. stay) (λ i e. step id i e queue.pop)

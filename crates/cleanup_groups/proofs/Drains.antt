@@ -1,4 +1,4 @@
--- A group that was closed or sealed away had nothing left
+-- Closing and sealing: what was closed or sealed away had nothing left, and sealing is done where nothing is left
 use Prim.Native.Nat.{ℕ, _<_}
 use mathlib.Core.Path.{_≡_, refl, ap, _∙_}
 use mathlib.Core.Bool.{true, false, not, _&&_}
@@ -7,9 +7,10 @@ use native.Mathlib.Omega.{arith}
 use borrow.Author.Tests.{not-true, not-false}
 use lib.ListN.{length}
 use Rattle.stage.specs.Phases.{isPending, isSettled}
-use Rattle.stage.proofs.Ways.{if-by, pass, and-left, and-right, clash}
+use Rattle.stage.proofs.Ways.{miss, pass, and-left, and-right, clash}
 use Rattle.queue_record.specs.WellFormed.{wellFormed}
 use Rattle.queue_record.specs.Waiting.{waiting}
+use Rattle.queue_record.specs.declared.openings.Opened.{Opened}
 use Rattle.queue_record.specs.declared.record.Queue.{Queue}
 use Rattle.queue_record.proofs.Fit.{free-no-marks}
 use Rattle.queue_questions.specs.Questions.{isEmptyTold}
@@ -19,21 +20,21 @@ use Rattle.cleanup_queue.proofs.Upstream.{empty-means, means-empty, empty-holds
 use Rattle.group_record.specs.Record.{queueAt, freePlace, withPlace, sealing}
 use Rattle.group_record.specs.Questions.{isYes, drained}
 use Rattle.group_record.specs.Scan.{someYes}
+use Rattle.group_check.specs.WellFormed.{wellGrouped}
 use Rattle.group_check.specs.Ids.{spotOf}
 use Rattle.group_record.specs.declared.record.Groups.{Groups}
 use Rattle.group_record.specs.declared.questions.Question.the-variants.{Undrained}
 use Rattle.group_check.specs.declared.ids.Spot.{Spot}
-use Rattle.group_lives.specs.Openings.{unsealed}
-use Rattle.group_lives.specs.Endings.{removedAt, removed, sealedBy, sealedIn}
+use Rattle.group_lives.specs.Endings.{refusedClose, removed, sealedBy, sealedIn}
 use Rattle.group_lives.specs.declared.endings.Closed.the-variants.{Done}
 use Rattle.group_lives.specs.declared.endings.CloseAnswer.{CloseAnswer}
-use Rattle.group_lives.proofs.Room.{unsealed-means}
+use Rattle.group_lives.proofs.Room.{unsealed-means, means-unsealed}
 use Rattle.group_check.proofs.Spots.{spot-means}
 use Rattle.cleanup_groups.specs.Promises.{LiveAt, Nothing}
-use Rattle.cleanup_groups.proofs.ByCase.{by-spot, by-gate}
+use Rattle.cleanup_groups.proofs.ByCase.{close-by, seal-by}
 use Rattle.cleanup_groups.proofs.Sounds.{sound-means}
 use Rattle.cleanup_groups.proofs.Keeps.{spot-live}
-use Rattle.cleanup_groups.proofs.Asked.{none-means}
+use Rattle.cleanup_groups.proofs.Asked.{none-means, means-none}
 
 pub yes-is : (t : Told) → isYes t ≡ true → t ≡ Yes
 yes-is Yes h = refl
@@ -66,20 +67,22 @@ means-drained q w n = pass _ (ap isYes (means-empty q w (n .selection) (n .waiti
 -- ---- closing
 -- it was live, with nothing left, and its place is free
 pub close-means : (g : Groups) (id : ℕ) → length (g .places) ≡ 16 → removed g id .answer ≡ Done → (i : ℕ) × (spotOf g id ≡ Spot.At i) × Nothing (queueAt g i) × (removed g id .groups ≡ withPlace g i freePlace)
-unfolding removed
 close-means g id l =
-    by-spot (λ (r : CloseAnswer). r .answer ≡ Done → (i : ℕ) × (spotOf g id ≡ Spot.At i) × Nothing (queueAt g i) × (r .groups ≡ withPlace g i freePlace)) (removedAt g) (spotOf g id)
-    (λ _ _ h. let z : _≡_ {A = ℕ} 0 1 = cc in absurd (omega arith))
-    (λ i e. if-by (λ (r : CloseAnswer). r .answer ≡ Done → (j : ℕ) × (spotOf g id ≡ Spot.At j) × Nothing (queueAt g j) × (r .groups ≡ withPlace g j freePlace)) (not (drained (queueAt g i))) _ _
-    (λ _ h. let z : _≡_ {A = ℕ} 0 1 = cc in absurd (omega arith))
-    (λ d _. let s = spot-live g id i l e in (i, e, drained-means (queueAt g i) (sound-means g l (spot-means g id i e .0) .queues i (s .0) (s .1)) (not-false _ d), refl)))
+    close-by (λ (r : CloseAnswer). r .answer ≡ Done → (i : ℕ) × (spotOf g id ≡ Spot.At i) × Nothing (queueAt g i) × (r .groups ≡ withPlace g i freePlace)) g
+    (λ _ _ h. let z : _≡_ {A = ℕ} 0 1 = cc in absurd (omega arith)) id
+    (λ i e d _. let s = spot-live g id i l e in (i, e, drained-means (queueAt g i) (sound-means g l (spot-means g id i e .0) .queues i (s .0) (s .1)) d, refl))
 
 -- ---- sealing
+-- every live group had nothing left, and none is live
 pub seal-drops : (g : Groups) → length (g .places) ≡ 16 → sealedIn g .answer ≡ Done → ((i : ℕ) → i < 16 → LiveAt g i → Nothing (queueAt g i)) × (sealedIn g .groups ≡ sealing g)
-unfolding sealedIn
 seal-drops g l =
-    by-gate (λ (r : CloseAnswer). r .answer ≡ Done → ((i : ℕ) → i < 16 → LiveAt g i → Nothing (queueAt g i)) × (r .groups ≡ sealing g)) (sealedBy g) (unsealed g)
+    seal-by (λ (r : CloseAnswer). r .answer ≡ Done → ((i : ℕ) → i < 16 → LiveAt g i → Nothing (queueAt g i)) × (r .groups ≡ sealing g)) g
     (λ _ _ h. let z : _≡_ {A = ℕ} 0 1 = cc in absurd (omega arith))
-    (λ u. if-by (λ (r : CloseAnswer). r .answer ≡ Done → ((i : ℕ) → i < 16 → LiveAt g i → Nothing (queueAt g i)) × (r .groups ≡ sealing g)) (someYes g Undrained []) _ _
-    (λ _ h. let z : _≡_ {A = ℕ} 0 1 = cc in absurd (omega arith))
-    (λ d _. (λ i k a. drained-means (queueAt g i) (sound-means g l (unsealed-means g u .0) .queues i k a) (not-false _ (not-true _ (none-means g l Undrained [] (λ _ _. refl) d i k a))), refl)))
+    (λ u d _. (λ i k a. drained-means (queueAt g i) (sound-means g l (unsealed-means g u .0) .queues i k a) (not-false _ (not-true _ (none-means g l Undrained [] (λ _ _. refl) d i k a))), refl))
+
+-- and it is done where nothing is left in any live group
+pub drained-seals : (g : Groups) → length (g .places) ≡ 16 → wellGrouped g ≡ true → g .sealed ≡ false → ((i : ℕ) → i < 16 → LiveAt g i → Nothing (queueAt g i)) → sealedIn g .answer ≡ Done
+unfolding sealedIn
+drained-seals g l w u f =
+    let n : someYes g Undrained [] ≡ false = means-none g l Undrained [] (λ _ _. refl) (λ i k a. ap not (ap not (means-drained (queueAt g i) (sound-means g l w .queues i k a) (f i k a)))) in
+    ap (λ (o : Opened). sealedBy g o .answer) (means-unsealed g w u) ∙ ap (λ (r : CloseAnswer). r .answer) (miss (refusedClose g 13) n)

@@ -7,10 +7,11 @@ use native.Mathlib.Omega.{arith}
 use lib.ListN.{length, getD}
 use Rattle.stage.specs.Choice.{if_then_else_}
 use Rattle.stage.proofs.Ways.{clash}
+use Rattle.queue_record.specs.Newest.{isThere}
 use Rattle.queue_record.specs.declared.search.Found.{Found}
 use Rattle.queue_record.specs.declared.search.Found.the-variants.{At, Missing}
 use Rattle.group_record.specs.Record.{nowhere}
-use Rattle.group_record.specs.Scan.{firstFrom, isThere}
+use Rattle.group_record.specs.Scan.{firstFrom}
 use Rattle.group_record.specs.declared.record.Place.{Place}
 
 module _ (says : Place → Bool) where

@@ -1,31 +1,29 @@
--- A call on an id changes one queue and nothing else of the record: base, next, seal, marks and ids stay
+-- What stays: a call on an id changes one queue alone; the base and a seal stay for good
 use Prim.Native.Nat.{ℕ, _<_}
 use mathlib.Core.Path.{_≡_, refl, sym, ap, _∙_, subst}
-use mathlib.Core.Bool.{not}
-use mathlib.Core.List.{List}
+use mathlib.Core.Bool.{true}
+use mathlib.Core.List.{List, [], _∷_}
 use lib.ListN.{length}
 use Rattle.queue_record.specs.declared.record.Queue.{Queue}
 use Rattle.queue_record.specs.declared.record.Ticket.{Ticket}
-use Rattle.stage.proofs.Ways.{if-by}
-use Rattle.group_record.specs.Questions.{drained}
-use Rattle.group_record.specs.Record.{placeAt, queueAt, holding, withQueue, sealing}
+use Rattle.group_record.specs.Record.{placeAt, holding, withQueue, sealing}
 use Rattle.group_check.specs.Ids.{spotOf}
 use Rattle.group_record.specs.declared.record.Place.{Place}
 use Rattle.group_record.specs.declared.record.Groups.{Groups}
 use Rattle.group_check.specs.declared.ids.Spot.{Spot}
-use Rattle.group_lives.specs.Endings.{removedAt, removed}
+use Rattle.group_lives.specs.Endings.{removed}
 use Rattle.group_lives.specs.declared.endings.CloseAnswer.{CloseAnswer}
 use Rattle.group_steps.specs.Births.{registeredAt, registeredIn, landedAt, landedIn}
 use Rattle.group_steps.specs.Attempts.{poppedAt, poppedIn, completedAt, completedIn, retriedAt, retriedIn}
 use Rattle.group_stages.specs.Stages.{admittedAt, admittedIn, admittedAtWithout, admittedInWithout, endedAt, endedIn, cancelledAt, cancelledIn}
 use Rattle.group_rounds.specs.Rounds.{allRetried}
 use Rattle.cleanup_groups.specs.Promises.{idAt, IsLive, Frame}
-use Rattle.cleanup_groups.specs.Runs.{Call, after}
-use Rattle.cleanup_groups.proofs.ByCase.{by-spot, call-by}
+use Rattle.cleanup_groups.specs.Runs.{Call, after, afterAll}
+use Rattle.cleanup_groups.proofs.ByCase.{by-spot, close-by, call-by}
 use Rattle.cleanup_groups.proofs.Placed.{by-place}
 use Rattle.cleanup_groups.proofs.Keeps.{spot-live, round-live, round-id}
 
-pub frame-same : (g : Groups) → Frame g g
+frame-same : (g : Groups) → Frame g g
 frame-same g = record { base = refl; next = refl; sealed = refl; marks = λ _. refl; ids = λ _. refl }
 
 pub queue-frame : (g : Groups) (i : ℕ) (q : Queue) → length (g .places) ≡ 16 → i < 16 → Frame g (withQueue g i q)
@@ -94,8 +92,19 @@ pub base-stays : (g : Groups) (c : Call) → after g c .base ≡ g .base
 unfolding sealing
 base-stays g c = call-by (λ (h : Groups). h .base ≡ g .base) g refl (λ _ _ _ _. refl) (λ _ _ _ _ _. refl) (λ _ _ _ _. refl) (λ _ _. refl) (λ _ _. refl) c
 
--- a closing changes one place and nothing beside the places
+pub run-base : (g : Groups) (cs : List Call) → afterAll g cs .base ≡ g .base
+run-base g [] = refl
+run-base g (c ∷ cs) = run-base (after g c) cs ∙ base-stays g c
+
+-- a sealed record stays sealed
+pub sealed-stays : (g : Groups) (c : Call) → g .sealed ≡ true → after g c .sealed ≡ true
+unfolding sealing
+sealed-stays g c s = call-by (λ (h : Groups). h .sealed ≡ true) g s (λ _ _ _ _. s) (λ _ _ _ _ _. s) (λ _ _ _ _. s) (λ _ _. refl) (λ _ _. s) c
+
+pub run-sealed : (g : Groups) (cs : List Call) → g .sealed ≡ true → afterAll g cs .sealed ≡ true
+run-sealed g [] s = s
+run-sealed g (c ∷ cs) s = run-sealed (after g c) cs (sealed-stays g c s)
+
+-- a closing leaves next and seal (the base: base-stays; the other places: close-others)
 pub close-frame : (g : Groups) (id : ℕ) → (removed g id .groups .next ≡ g .next) × (removed g id .groups .sealed ≡ g .sealed)
-unfolding removed
-close-frame g id = by-spot (λ (r : CloseAnswer). (r .groups .next ≡ g .next) × (r .groups .sealed ≡ g .sealed)) (removedAt g) (spotOf g id) (λ _ _. (refl, refl))
-    (λ i _. if-by (λ (r : CloseAnswer). (r .groups .next ≡ g .next) × (r .groups .sealed ≡ g .sealed)) (not (drained (queueAt g i))) _ _ (λ _. (refl, refl)) (λ _. (refl, refl)))
+close-frame g id = close-by (λ (r : CloseAnswer). (r .groups .next ≡ g .next) × (r .groups .sealed ≡ g .sealed)) g (λ _ _. (refl, refl)) id (λ _ _ _. (refl, refl))

@@ -1,6 +1,6 @@
 -- Ids: next only rises, an id that is gone never comes back, and domains of live groups differ
 use Prim.Native.Nat.{ℕ, _+_, _<_, _≤_}
-use mathlib.Core.Path.{_≡_, refl, sym, _∙_}
+use mathlib.Core.Path.{_≡_, refl, sym, _∙_, subst}
 use mathlib.Core.Bool.{true, false}
 use mathlib.Core.Logic.{_⊎_, inl, inr, ⊎-elim}
 use mathlib.Core.List.{List, [], _∷_}
@@ -10,6 +10,9 @@ use Rattle.stage.proofs.Ways.{clash}
 use Rattle.cleanup_queue.specs.Runs as queue
 use Rattle.group_record.specs.Record.{placeAt, queueAt, freePlace, livePlace, holding, withPlace, sealing}
 use Rattle.group_check.specs.WellFormed.{wellGrouped}
+use Rattle.group_check.proofs.Spots.{spot-means}
+use Rattle.group_lives.specs.Endings.{removed}
+use Rattle.group_lives.specs.declared.endings.Closed.the-variants.{Done}
 use Rattle.group_record.specs.declared.record.Place.{Place}
 use Rattle.group_record.specs.declared.record.Groups.{Groups}
 use Rattle.cleanup_groups.specs.Promises.{LiveAt, idAt, Sound, IsLive}
@@ -18,6 +21,9 @@ use Rattle.cleanup_groups.proofs.ByCase.{call-by}
 use Rattle.cleanup_groups.proofs.Placed.{by-place}
 use Rattle.cleanup_groups.proofs.Sounds.{sound-means}
 use Rattle.cleanup_groups.proofs.Keeps.{spot-live, room-free, all-free-sound, round-live, round-id, call-whole}
+use Rattle.cleanup_groups.proofs.Drains.{close-means}
+use Rattle.cleanup_groups.proofs.Frames.{close-frame}
+use Rattle.cleanup_groups.proofs.Live.{closed-gone}
 
 -- ---- next
 pub next-rises : (g : Groups) (c : Call) → g .next ≤ after g c .next
@@ -53,6 +59,14 @@ gone-stays g [] id l b n w = n w
 gone-stays g (c ∷ cs) id l b n w =
     let r : g .next ≤ after g c .next = next-rises g c in
     gone-stays (after g c) cs id (call-whole g c l) (omega arith) (λ v. ⊎-elim n (λ e. omega arith) (live-from g l id c v)) w
+
+-- the id of a closed group, whatever is called afterwards
+pub closed-for-good : (g : Groups) (id : ℕ) (cs : List Call) → length (g .places) ≡ 16 → removed g id .answer ≡ Done → IsLive (afterAll (removed g id .groups) cs) id → ⊥
+closed-for-good g id cs l h =
+    let c = close-means g id l h in
+    let s = spot-live g id (c .0) l (c .1) in
+    let b : id < g .next = subst (λ (n : ℕ). n < g .next) (s .2) (sound-means g l (spot-means g id (c .0) (c .1) .0) .below (c .0) (s .0) (s .1)) in
+    gone-stays (removed g id .groups) cs id (call-whole g (Call.remove id) l) (subst (λ (n : ℕ). id < n) (sym (close-frame g id .0)) b) (closed-gone g id l h)
 
 -- ---- live groups have domains of their own
 pub domains-differ : (g : Groups) → length (g .places) ≡ 16 → wellGrouped g ≡ true → (i j : ℕ) → i < 16 → j < 16 → LiveAt g i → LiveAt g j → queueAt g i .domain ≡ queueAt g j .domain → i ≡ j

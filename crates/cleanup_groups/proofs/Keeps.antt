@@ -13,7 +13,7 @@ use Rattle.queue_record.specs.WellFormed.{wellFormed}
 use Rattle.queue_record.specs.Openings.{scopeOf, blank}
 use Rattle.queue_record.specs.declared.record.Queue.{Queue}
 use Rattle.queue_record.specs.declared.search.Found.the-variants.{At}
-use Rattle.queue_record.proofs.Opened.{scope-well-formed}
+use Rattle.queue_record.proofs.Opened.{scope-well-formed, scope-sized}
 use Rattle.queue_steps.specs.Attempts.{retried}
 use Rattle.cleanup_queue.specs.Runs as queue
 use Rattle.cleanup_queue.proofs.Sizes as sizes
@@ -42,7 +42,7 @@ use Rattle.cleanup_groups.proofs.ByCase.{New, call-by}
 use Rattle.cleanup_groups.proofs.Placed.{replaced, raised, same-length}
 
 -- ---- what is found
-pub found-at : (g : Groups) (question : Question) (i : ℕ) → length (g .places) ≡ 16 → firstYes g question [] ≡ At i → (i < 16) × (asksOf question [] (placeAt g i) ≡ true)
+found-at : (g : Groups) (question : Question) (i : ℕ) → length (g .places) ≡ 16 → firstYes g question [] ≡ At i → (i < 16) × (asksOf question [] (placeAt g i) ≡ true)
 found-at g question i l e =
     let w = found-says (asksOf question []) 0 (g .places) i e in
     let z : i ≡ 0 + w .0 = w .1 in
@@ -91,7 +91,7 @@ module _ (g : Groups) (l : length (g .places) ≡ 16) (s : Sound g) where
     sealed = λ e. s .sealed e i k;
   })
 
-  pub open-sound : (i : ℕ) (q : Queue) → i < 16 → g .sealed ≡ false → g .next < 65536 → New g q → Sound (opening g i q)
+  open-sound : (i : ℕ) (q : Queue) → i < 16 → g .sealed ≡ false → g .next < 65536 → New g q → Sound (opening g i q)
   open-sound i q k u h n = replaced (withNext g (g .next + 1)) i (livePlace (g .next) q) l k (raised g s h) (record {
     apart = λ _ j x m b e. let y : idAt g j < g .next = s .below j x b in omega arith;
     below = λ _. omega arith;
@@ -101,7 +101,7 @@ module _ (g : Groups) (l : length (g .places) ≡ 16) (s : Sound g) where
     sealed = λ e. clash e u;
   })
 
-  pub free-sound : (i : ℕ) → i < 16 → Sound (withPlace g i freePlace)
+  free-sound : (i : ℕ) → i < 16 → Sound (withPlace g i freePlace)
   unfolding blank scopeOf
   free-sound i k = replaced g i freePlace l k s (record {
     apart = λ b j x m c e. clash {b = false} b refl;
@@ -113,7 +113,7 @@ module _ (g : Groups) (l : length (g .places) ≡ 16) (s : Sound g) where
   })
 
 -- ---- all places free
-free-there : (n i : ℕ) → i < n → getD (replicate n freePlace) i nowhere ≡ freePlace
+pub free-there : (n i : ℕ) → i < n → getD (replicate n freePlace) i nowhere ≡ freePlace
 free-there zero i h = absurd (omega arith)
 free-there (suc n) zero h = refl
 free-there (suc n) (suc i) h = free-there n i (omega arith)
@@ -160,7 +160,7 @@ module _ (g : Groups) where
   pub round-id : (i : ℕ) → idAt (allRetried g) i ≡ idAt g i
   round-id i = by-round (λ (p : Place). p .id ≡ idAt g i) g i (λ _ _. refl) (λ _. refl)
 
-  pub round-sound : Sound g → Sound (allRetried g)
+  round-sound : Sound g → Sound (allRetried g)
   round-sound s = record {
     base = s .base;
     next = s .next;
@@ -217,7 +217,7 @@ unfolding emptyOf scopeOf
 root-keeps base h =
     let z : base ≡ base + 0 = omega arith in
     means-sound (opening (allFree base 0 false) 0 (scopeOf base 0)) refl
-    (open-sound (allFree base 0 false) refl (all-free-sound base 0 false h (omega arith)) 0 (scopeOf base 0) (omega arith) refl (omega arith) (record { sound = scope-well-formed base 0; domain = z }))
+    (open-sound (allFree base 0 false) refl (all-free-sound base 0 false h (omega arith)) 0 (scopeOf base 0) (omega arith) refl (omega arith) (record { sound = scope-well-formed base 0; domain = z; sized = scope-sized base 0 }))
 
 pub new-keeps : (base : ℕ) → wellGrouped (newOf base .groups) ≡ true
 unfolding newOf

@@ -3,6 +3,7 @@ pub mod Sounds
 pub mod ByCase
 pub mod Placed
 pub mod Keeps
+pub mod Sizes
 pub mod Ids
 pub mod Asked
 pub mod Drains
@@ -16,4 +17,6 @@ pub mod Upstream
 pub mod Frames
 pub mod Live
 pub mod Room
-pub mod Gone
+pub mod Counts
+pub mod Says
+pub mod SaysById

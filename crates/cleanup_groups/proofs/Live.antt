@@ -7,6 +7,7 @@ use borrow.Author.Tests.{eq-eqb}
 use lib.ListN.{length}
 use Rattle.stage.specs.Phases.{isCancelled}
 use Rattle.stage.proofs.Ways.{hit, miss, clash}
+use Rattle.queue_record.specs.Newest.{isThere}
 use Rattle.queue_record.specs.Openings.{blank}
 use Rattle.queue_record.specs.Refusals.{broken, noGroup}
 use Rattle.queue_record.specs.WellFormed.{wellFormed}
@@ -22,7 +23,7 @@ use Rattle.queue_steps.specs.Attempts.{popped, completed, retried}
 use Rattle.queue_stages.specs.Stages.{admitted, ended, cancelledBy}
 use Rattle.cleanup_queue.proofs.Finish.{yes-asked}
 use Rattle.group_record.specs.Record.{queueAt, freePlace}
-use Rattle.group_record.specs.Scan.{firstYes, isThere}
+use Rattle.group_record.specs.Scan.{firstYes}
 use Rattle.group_check.specs.WellFormed.{wellGrouped}
 use Rattle.group_check.specs.Ids.{spotAt, spotOf, gotAt, got}
 use Rattle.group_record.specs.declared.record.Place.{Place}

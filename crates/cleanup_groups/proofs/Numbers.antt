@@ -6,6 +6,7 @@ use mathlib.Core.List.{List, [], _∷_}
 use lib.Dec.{leb, ltb}
 use lib.ListN.{length}
 use Rattle.stage.specs.Choice.{if_then_else_}
+use Rattle.queue_record.specs.Newest.{isThere}
 use Rattle.queue_record.specs.Refusals.{broken, noGroup, sealed, noId}
 use Rattle.queue_record.specs.Openings.{iteratorOpened}
 use Rattle.queue_record.specs.declared.record.Queue.{Queue}
@@ -19,7 +20,7 @@ use Rattle.cleanup_queue.proofs.Numbers.{due-if}
 use Rattle.cleanup_queue.specs.Orders.{due, firstDue}
 use Rattle.group_record.specs.Record.{queueAt}
 use Rattle.group_record.specs.Questions.{drained}
-use Rattle.group_record.specs.Scan.{isThere, firstYes, someYes}
+use Rattle.group_record.specs.Scan.{firstYes, someYes}
 use Rattle.group_check.specs.WellFormed.{lastBase, ids, wellGrouped}
 use Rattle.group_check.specs.Ids.{spotAt, spotOf, gotAt, got}
 use Rattle.group_record.specs.declared.record.Groups.{Groups}

@@ -6,6 +6,7 @@ use mathlib.Core.List.{List, []}
 use Rattle.stage.specs.Choice.{if_then_else_}
 use Rattle.stage.specs.Phases.{isCancelled}
 use Rattle.stage.proofs.Ways.{hit, miss, if-by}
+use Rattle.queue_record.specs.Newest.{isThere}
 use Rattle.queue_record.specs.Refusals.{broken, noGroup}
 use Rattle.queue_record.specs.declared.record.Queue.{Queue}
 use Rattle.queue_record.specs.declared.record.Ticket.{Ticket}
@@ -17,7 +18,7 @@ use Rattle.cleanup_queue.specs.Answers.{registeredSays, poppedSays, completedSa
 use Rattle.cleanup_queue.specs.Orders.{Due, firstDue, registerOrder, landOrder, popOrder, completeOrder, retryOrder, brokenOnly}
 use Rattle.cleanup_queue.proofs.Numbers as queue
 use Rattle.group_record.specs.Record.{queueAt}
-use Rattle.group_record.specs.Scan.{isThere, firstYes, someYes}
+use Rattle.group_record.specs.Scan.{firstYes, someYes}
 use Rattle.group_check.specs.WellFormed.{wellGrouped}
 use Rattle.group_check.specs.Ids.{spotAt, spotOf, gotAt, got}
 use Rattle.group_record.specs.declared.record.Groups.{Groups}

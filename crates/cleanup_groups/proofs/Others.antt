@@ -1,28 +1,24 @@
 -- Other groups stay: a call on one id leaves every place that is live under another
 use Prim.Native.Nat.{ℕ}
 use mathlib.Core.Path.{_≡_, refl, sym, ap, _∙_}
-use mathlib.Core.Bool.{not}
 use mathlib.Core.List.{List}
 use lib.ListN.{length}
-use Rattle.stage.proofs.Ways.{if-by, clash}
-use Rattle.queue_record.specs.Openings.{iteratorOpened}
-use Rattle.queue_record.specs.declared.record.Queue.{Queue}
+use Rattle.stage.proofs.Ways.{clash}
 use Rattle.queue_record.specs.declared.record.Ticket.{Ticket}
-use Rattle.group_record.specs.Record.{placeAt, queueAt, livePlace, withPlace}
-use Rattle.group_record.specs.Questions.{drained}
+use Rattle.group_record.specs.Record.{placeAt, withPlace}
 use Rattle.group_check.specs.Ids.{spotOf}
 use Rattle.group_record.specs.declared.record.Place.{Place}
 use Rattle.group_record.specs.declared.record.Groups.{Groups}
 use Rattle.group_check.specs.declared.ids.Spot.{Spot}
-use Rattle.group_lives.specs.Openings.{unsealed, nextDomain, roomOf, addedAt, added, addedScopeBy, addedScope, addedQueue, addedIteratorBy, addedIterator}
-use Rattle.group_lives.specs.Endings.{removedAt, removed}
+use Rattle.group_lives.specs.Openings.{roomOf, addedScope, addedIterator}
+use Rattle.group_lives.specs.Endings.{removed}
 use Rattle.group_lives.specs.declared.openings.AddAnswer.{AddAnswer}
 use Rattle.group_lives.specs.declared.endings.CloseAnswer.{CloseAnswer}
 use Rattle.group_steps.specs.Births.{registeredAt, registeredIn, landedAt, landedIn}
 use Rattle.group_steps.specs.Attempts.{poppedAt, poppedIn, completedAt, completedIn, retriedAt, retriedIn}
 use Rattle.group_stages.specs.Stages.{admittedAt, admittedIn, admittedAtWithout, admittedInWithout, endedAt, endedIn, cancelledAt, cancelledIn}
 use Rattle.cleanup_groups.specs.Promises.{LiveAt, idAt}
-use Rattle.cleanup_groups.proofs.ByCase.{by-spot, by-gate}
+use Rattle.cleanup_groups.proofs.ByCase.{by-spot, scope-by, iterator-by, close-by}
 use Rattle.cleanup_groups.proofs.Placed.{others-stay}
 use Rattle.cleanup_groups.proofs.Keeps.{spot-live, room-free}
 
@@ -75,20 +71,15 @@ module _ (g : Groups) (l : length (g .places) ≡ 16) (j : ℕ) where
     cancel-others = by-id (λ s. cancelledAt g s .groups) (λ _. refl) (λ i e. aside i _ e)
 
     pub close-others : Stays (removed g id .groups)
-    unfolding removed
-    close-others = by-id (λ s. removedAt g s .groups) (λ _. refl) (λ i e. if-by (λ (r : CloseAnswer). Stays (r .groups)) (not (drained (queueAt g i))) _ _ (λ _. refl) (λ _. aside i _ e))
+    close-others = close-by (λ (r : CloseAnswer). Stays (r .groups)) g (λ _ _. refl) id (λ i e _. aside i _ e)
 
   -- ---- an opening leaves every live group
   module _ (a : LiveAt g j) where
-    put-aside : (q : Queue) → Stays (added g q .groups)
-    put-aside q = by-spot (λ (h : Groups). Stays h) (λ s. addedAt g q s .groups) (roomOf g) (λ _ _. refl) (λ i e. others-stay g i (livePlace (g .next) q) j (λ d. clash (sym (ap (λ (k : ℕ). placeAt g k .live) d) ∙ a) (room-free g i l e .1)))
+    put-aside : (i : ℕ) (p : Place) → roomOf g ≡ Spot.At i → Stays (withPlace g i p)
+    put-aside i p e = others-stay g i p j (λ d. clash (sym (ap (λ (k : ℕ). placeAt g k .live) d) ∙ a) (room-free g i l e .1))
 
     pub scope-others : Stays (addedScope g .groups)
-    unfolding addedScope
-    scope-others = by-gate (λ (r : AddAnswer). Stays (r .groups)) (addedScopeBy g) (unsealed g) (λ _ _. refl) (λ _. put-aside _)
+    scope-others = scope-by (λ (r : AddAnswer). Stays (r .groups)) g (λ _ _. refl) (λ i _ e. put-aside i _ e)
 
     pub iterator-others : (bindings : List ℕ) → Stays (addedIterator g bindings .groups)
-    unfolding addedIterator
-    iterator-others bindings =
-        by-gate (λ (r : AddAnswer). Stays (r .groups)) (addedIteratorBy g bindings) (unsealed g) (λ _ _. refl)
-        (λ _. by-gate (λ (r : AddAnswer). Stays (r .groups)) (addedQueue g (iteratorOpened (nextDomain g) 0 bindings .queue)) (iteratorOpened (nextDomain g) 0 bindings .answer) (λ _ _. refl) (λ _. put-aside _))
+    iterator-others bindings = iterator-by (λ (r : AddAnswer). Stays (r .groups)) g (λ _ _. refl) bindings (λ i _ _ e. put-aside i _ e)

@@ -1,12 +1,10 @@
 -- A refusal leaves the whole record, and register, land and complete return the number given
 use Prim.Native.Nat.{ℕ, zero, suc}
 use mathlib.Core.Path.{_≡_, refl, ap, _∙_}
-use mathlib.Core.Bool.{false, not}
+use mathlib.Core.Bool.{false}
 use mathlib.Core.List.{List, [], _∷_}
 use native.Mathlib.Omega.{arith}
 use lib.ListN.{getD, set}
-use Rattle.stage.proofs.Ways.{if-by}
-use Rattle.queue_record.specs.Openings.{iteratorOpened}
 use Rattle.queue_record.specs.declared.record.Queue.{Queue}
 use Rattle.queue_record.specs.declared.record.Ticket.{Ticket}
 use Rattle.queue_questions.specs.Questions.{matches}
@@ -18,14 +16,11 @@ use Rattle.queue_steps.specs.declared.attempts.Completed.{Completed}
 use Rattle.queue_steps.specs.declared.attempts.Retried.{Retried}
 use Rattle.cleanup_queue.proofs.Numbers as queue
 use Rattle.group_record.specs.Record.{nowhere, queueAt, withQueue, withPlaces}
-use Rattle.group_record.specs.Questions.{drained}
-use Rattle.group_record.specs.Scan.{someYes}
 use Rattle.group_check.specs.Ids.{spotOf}
 use Rattle.group_record.specs.declared.record.Place.{Place}
 use Rattle.group_record.specs.declared.record.Groups.{Groups}
-use Rattle.group_record.specs.declared.questions.Question.the-variants.{Undrained}
-use Rattle.group_lives.specs.Openings.{unsealed, nextDomain, roomOf, addedAt, added, addedScopeBy, addedScope, addedQueue, addedIteratorBy, addedIterator}
-use Rattle.group_lives.specs.Endings.{removedAt, removed, sealedBy, sealedIn}
+use Rattle.group_lives.specs.Openings.{addedScope, addedIterator}
+use Rattle.group_lives.specs.Endings.{removed, sealedIn}
 use Rattle.group_lives.specs.declared.openings.Added.{Added}
 use Rattle.group_lives.specs.declared.openings.AddAnswer.{AddAnswer}
 use Rattle.group_lives.specs.declared.endings.Closed.{Closed}
@@ -39,7 +34,7 @@ use Rattle.group_steps.specs.declared.attempts.GroupCompleteAnswer.{GroupComple
 use Rattle.group_steps.specs.declared.attempts.GroupRetryAnswer.{GroupRetryAnswer}
 use Rattle.group_stages.specs.declared.stages.GroupStageAnswer.{GroupStageAnswer}
 use Rattle.group_stages.specs.declared.stages.GroupCancelAnswer.{GroupCancelAnswer}
-use Rattle.cleanup_groups.proofs.ByCase.{by-spot, by-gate}
+use Rattle.cleanup_groups.proofs.ByCase.{by-spot, scope-by, iterator-by, close-by, seal-by}
 
 -- ---- a queue put back as it was changes nothing
 set-same : (ps : List Place) (i : ℕ) → set ps i (getD ps i nowhere) ≡ ps
@@ -101,26 +96,17 @@ module _ (g : Groups) where
   Kept a = (refusal : ℕ) → a .answer ≡ Closed.Refused refusal → a .groups ≡ g
 
   pub close-refused : (id : ℕ) → Kept (removed g id)
-  unfolding removed
-  close-refused id = by-spot (λ (a : CloseAnswer). Kept a) (removedAt g) (spotOf g id) (λ _ _ _ _. refl) (λ i _. if-by (λ (a : CloseAnswer). Kept a) (not (drained (queueAt g i))) _ _ (λ _ _ _. refl) (λ _ r h. let z : _≡_ {A = ℕ} 0 1 = cc in absurd (omega arith)))
+  close-refused id = close-by Kept g (λ _ _ _ _. refl) id (λ _ _ _ r h. let z : _≡_ {A = ℕ} 0 1 = cc in absurd (omega arith))
 
   pub seal-refused : Kept (sealedIn g)
-  unfolding sealedIn
-  seal-refused = by-gate (λ (a : CloseAnswer). Kept a) (sealedBy g) (unsealed g) (λ _ _ _ _. refl) (λ _. if-by (λ (a : CloseAnswer). Kept a) (someYes g Undrained []) _ _ (λ _ _ _. refl) (λ _ r h. let z : _≡_ {A = ℕ} 0 1 = cc in absurd (omega arith)))
+  seal-refused = seal-by Kept g (λ _ _ _ _. refl) (λ _ _ r h. let z : _≡_ {A = ℕ} 0 1 = cc in absurd (omega arith))
 
   -- ---- openings
   abbrev Same : AddAnswer → Type 0
   Same a = (refusal : ℕ) → a .answer ≡ Added.Refused refusal → a .groups ≡ g
 
-  add-same : (q : Queue) → Same (added g q)
-  add-same q = by-spot (λ (a : AddAnswer). Same a) (addedAt g q) (roomOf g) (λ _ _ _ _. refl) (λ _ _ r h. let z : _≡_ {A = ℕ} 0 1 = cc in absurd (omega arith))
-
   pub scope-refused : Same (addedScope g)
-  unfolding addedScope
-  scope-refused = by-gate (λ (a : AddAnswer). Same a) (addedScopeBy g) (unsealed g) (λ _ _ _ _. refl) (λ _. add-same _)
+  scope-refused = scope-by Same g (λ _ _ _ _. refl) (λ _ _ _ r h. let z : _≡_ {A = ℕ} 0 1 = cc in absurd (omega arith))
 
   pub iterator-refused : (bindings : List ℕ) → Same (addedIterator g bindings)
-  unfolding addedIterator
-  iterator-refused bindings =
-      by-gate (λ (a : AddAnswer). Same a) (addedIteratorBy g bindings) (unsealed g) (λ _ _ _ _. refl)
-      (λ _. by-gate (λ (a : AddAnswer). Same a) (addedQueue g (iteratorOpened (nextDomain g) 0 bindings .queue)) (iteratorOpened (nextDomain g) 0 bindings .answer) (λ _ _ _ _. refl) (λ _. add-same _))
+  iterator-refused bindings = iterator-by Same g (λ _ _ _ _. refl) bindings (λ _ _ _ _ r h. let z : _≡_ {A = ℕ} 0 1 = cc in absurd (omega arith))

@@ -1,38 +1,39 @@
--- Clauses of upstream's groups that no other file states: ids and marks stay, what an opening gives, what a round leaves
+-- Clauses of upstream's groups that no other file states: a new record, what an opening gives, can_finish, a sealed record, what
+-- a round leaves
 use Prim.Native.Nat.{ℕ, _<_, _≤_}
 use mathlib.Core.Path.{_≡_, refl, sym, ap, _∙_, subst}
 use mathlib.Core.Bool.{true, false, not}
 use mathlib.Core.List.{List}
 use native.Mathlib.Omega.{arith}
-use borrow.Author.Tests.{ltb-false, lt-ltb, le-ltb, not-true}
+use borrow.Author.Tests.{lt-ltb, le-ltb, not-true}
 use lib.Dec.{ltb}
 use lib.ListN.{length}
 use Rattle.stage.proofs.Ways.{if-by, hit, miss, pass, and-left, and-right, clash}
 use Rattle.stage.specs.Phases.{isPending}
-use Rattle.queue_record.specs.Openings.{scopeOf, iteratorOf, iteratorOpened}
+use Rattle.queue_record.specs.Openings.{scopeOf, iteratorOf}
 use Rattle.queue_record.specs.declared.record.Queue.{Queue}
 use Rattle.queue_record.specs.Refusals.{noId}
 use Rattle.queue_record.specs.declared.openings.Opened.{Opened}
 use Rattle.queue_record.specs.declared.openings.Opened.the-variants.{Open}
-use Rattle.queue_record.specs.declared.openings.OpenAnswer.{OpenAnswer}
 use Rattle.queue_steps.specs.Attempts.{retried}
 use Rattle.queue_questions.specs.declared.questions.Told.the-variants.{Yes}
 use Rattle.cleanup_queue.proofs.Upstream.{retry-leaves, call-keeps-domain}
 use Rattle.cleanup_queue.specs.Runs as queue
-use Rattle.group_record.specs.Record.{placeAt, queueAt, livePlace, emptyOf, sealing}
+use Rattle.group_record.specs.Record.{placeAt, queueAt, livePlace, emptyOf, opening, sealing}
 use Rattle.group_record.specs.Questions.{finishes}
 use Rattle.group_check.specs.WellFormed.{lastBase}
+use Rattle.group_check.specs.declared.ids.Spot.{Spot}
 use Rattle.group_record.specs.declared.record.Place.{Place}
 use Rattle.group_record.specs.declared.record.Groups.{Groups}
 use Rattle.group_survey.specs.Whole.{canFinishOf}
-use Rattle.group_lives.specs.Openings.{newOf, unsealed, nextDomain, roomOf, addedAt, added, addedScopeBy, addedScope, addedQueue, addedIteratorBy, addedIterator}
+use Rattle.group_lives.specs.Openings.{newOf, unsealed, nextDomain, roomOf, addedScope, addedIterator}
 use Rattle.group_lives.specs.declared.openings.NewAnswer.{NewAnswer}
 use Rattle.group_lives.proofs.Room.{unsealed-means}
 use Rattle.group_lives.specs.declared.openings.Added.{Added}
 use Rattle.group_lives.specs.declared.openings.AddAnswer.{AddAnswer}
 use Rattle.group_rounds.specs.Rounds.{allRetried}
 use Rattle.cleanup_groups.specs.Promises.{LiveAt, idAt, AddedAs}
-use Rattle.cleanup_groups.proofs.ByCase.{by-spot, by-gate}
+use Rattle.cleanup_groups.proofs.ByCase.{scope-by, iterator-by}
 use Rattle.cleanup_groups.proofs.Placed.{by-place, put-there}
 use Rattle.cleanup_groups.proofs.Keeps.{room-free, room-lowest, all-free-sound, by-round}
 use Rattle.cleanup_groups.proofs.Asked.{finish-means}
@@ -56,13 +57,15 @@ new-alone base i h k = if-by (λ (r : NewAnswer). LiveAt (r .groups) i → i ≡
 
 -- ---- an opening that is done
 module _ (g : Groups) (l : length (g .places) ≡ 16) (n : ℕ) where
-  add-as : (q : Queue) → g .sealed ≡ false → added g q .answer ≡ Added.Id n → AddedAs g n q (added g q .groups)
-  add-as q u = by-spot (λ (r : AddAnswer). r .answer ≡ Added.Id n → AddedAs g n q (r .groups)) (addedAt g q) (roomOf g)
-      (λ _ _ h. let z : _≡_ {A = ℕ} 0 1 = cc in absurd (omega arith))
-      (λ i e h. let z : g .next ≡ n = cc in let k = room-free g i l e in let p = put-there g i (livePlace (g .next) q) l (k .0) in record {
+  add-as : (q : Queue) (i : ℕ) → unsealed g ≡ Open → roomOf g ≡ Spot.At i → Added.Id (g .next) ≡ Added.Id n → AddedAs g n q (opening g i q)
+  add-as q i u e h =
+      let z : g .next ≡ n = cc in
+      let k = room-free g i l e in
+      let p = put-there g i (livePlace (g .next) q) l (k .0) in
+      record {
         id = sym z;
         next = refl;
-        unsealed = u;
+        unsealed = unsealed-means g u .1;
         place = i;
         inside = k .0;
         was = k .1;
@@ -70,22 +73,16 @@ module _ (g : Groups) (l : length (g .places) ≡ 16) (n : ℕ) where
         live = ap (λ (a : Place). a .live) p;
         named = ap (λ (a : Place). a .id) p ∙ z;
         queue = ap (λ (a : Place). a .queue) p;
-      })
+      }
 
   pub scope-as : addedScope g .answer ≡ Added.Id n → AddedAs g n (scopeOf (nextDomain g) 0) (addedScope g .groups)
-  unfolding addedScope
-  scope-as = by-gate (λ (r : AddAnswer). r .answer ≡ Added.Id n → AddedAs g n (scopeOf (nextDomain g) 0) (r .groups)) (addedScopeBy g) (unsealed g)
-      (λ _ _ h. let z : _≡_ {A = ℕ} 0 1 = cc in absurd (omega arith))
-      (λ u. add-as (scopeOf (nextDomain g) 0) (unsealed-means g u .1))
+  scope-as = scope-by (λ (r : AddAnswer). r .answer ≡ Added.Id n → AddedAs g n (scopeOf (nextDomain g) 0) (r .groups)) g (λ _ _ h. let z : _≡_ {A = ℕ} 0 1 = cc in absurd (omega arith)) (λ i u e h. add-as _ i u e h)
 
   -- the committed bindings are the given ones: it is the queue that opening an iterator with them gives
   pub iterator-as : (bindings : List ℕ) → addedIterator g bindings .answer ≡ Added.Id n → (length bindings ≤ 16) × AddedAs g n (iteratorOf (nextDomain g) 0 bindings) (addedIterator g bindings .groups)
-  unfolding addedIterator iteratorOpened
-  iterator-as bindings = by-gate (λ (r : AddAnswer). r .answer ≡ Added.Id n → (length bindings ≤ 16) × AddedAs g n (iteratorOf (nextDomain g) 0 bindings) (r .groups)) (addedIteratorBy g bindings) (unsealed g)
-      (λ _ _ h. let z : _≡_ {A = ℕ} 0 1 = cc in absurd (omega arith))
-      (λ u. if-by (λ (o : OpenAnswer). addedQueue g (o .queue) (o .answer) .answer ≡ Added.Id n → (length bindings ≤ 16) × AddedAs g n (iteratorOf (nextDomain g) 0 bindings) (addedQueue g (o .queue) (o .answer) .groups)) (ltb 16 (length bindings)) _ _
-      (λ _ h. let z : _≡_ {A = ℕ} 0 1 = cc in absurd (omega arith))
-      (λ e h. (ltb-false _ _ e, add-as (iteratorOf (nextDomain g) 0 bindings) (unsealed-means g u .1) h)))
+  iterator-as bindings =
+      iterator-by (λ (r : AddAnswer). r .answer ≡ Added.Id n → (length bindings ≤ 16) × AddedAs g n (iteratorOf (nextDomain g) 0 bindings) (r .groups)) g
+      (λ _ _ h. let z : _≡_ {A = ℕ} 0 1 = cc in absurd (omega arith)) bindings (λ i u b e h. (b, add-as _ i u e h))
 
 -- ---- can_finish says yes: nothing is pending and nothing has failed
 pub finish-quiet : (g : Groups) (target : List ℕ) → length (g .places) ≡ 16 → canFinishOf g target ≡ Yes → (i : ℕ) → i < 16 → LiveAt g i → (isPending (queueAt g i .phase) ≡ false) × (queueAt g i .failed ≡ false)

@@ -1,7 +1,7 @@
 -- The refusals of the groups' calls in document 01's order, each with when it is given: "Groups"
 use Prim.Native.Nat.{ℕ}
 use mathlib.Core.Bool.{Bool, false, not}
-use mathlib.Core.List.{List, [], _∷_}
+use mathlib.Core.List.{List, [], _∷_, _++_}
 use lib.Dec.{leb, ltb}
 use lib.ListN.{length}
 use Rattle.queue_record.specs.Refusals.{broken, noGroup, groupsFull, sealed, notDrained, tooManyBindings, noId}
@@ -44,10 +44,7 @@ orderAt g order (At i) = order (queueAt g i)
 
 -- other calls check 1, 10, then as the queue
 abbrev pub stepOrder : Groups → ℕ → (Queue → List Due) → List Due
-stepOrder g id order =
-    due broken (not (wellGrouped g)) ∷
-    due noGroup (not (someYes g (Holds id) [])) ∷
-    orderAt g order (firstYes g (Holds id) [])
+stepOrder g id order = idOrder g id ++ orderAt g order (firstYes g (Holds id) [])
 
 -- calls on the whole record check 1 alone
 abbrev pub recordOrder : Groups → List Due
@@ -60,11 +57,7 @@ undrainedAt g (At i) = not (drained (queueAt g i))
 
 -- close checks 1, 10, 13
 abbrev pub closeOrder : Groups → ℕ → List Due
-closeOrder g id =
-    due broken (not (wellGrouped g)) ∷
-    due noGroup (not (someYes g (Holds id) [])) ∷
-    due notDrained (undrainedAt g (firstYes g (Holds id) [])) ∷
-    []
+closeOrder g id = idOrder g id ++ (due notDrained (undrainedAt g (firstYes g (Holds id) [])) ∷ [])
 
 -- seal checks 1, 12, 13
 abbrev pub sealOrder : Groups → List Due

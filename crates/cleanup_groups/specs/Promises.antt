@@ -2,6 +2,8 @@
 use Prim.Native.Nat.{ℕ, _+_, _<_, _≤_}
 use mathlib.Core.Path.{_≡_}
 use mathlib.Core.Bool.{Bool, true, false}
+use Rattle.queue_record.specs.Refusals.{done}
+use Rattle.queue_record.specs.Record.{Sized}
 use Rattle.queue_record.specs.WellFormed.{wellFormed}
 use Rattle.queue_record.specs.declared.record.Queue.{Queue}
 use Rattle.queue_record.specs.declared.record.Selection.the-variants.{Free}
@@ -74,3 +76,11 @@ pub record Frame (g h : Groups) : Type 0 where
   pub sealed : h .sealed ≡ g .sealed
   pub marks : (i : ℕ) → placeAt h i .live ≡ placeAt g i .live
   pub ids : (i : ℕ) → idAt h i ≡ idAt g i
+
+-- the queue of every place has its 64 slots and 16 bindings
+abbrev pub AllSized : Groups → Type 0
+AllSized g = (i : ℕ) → i < 16 → Sized (queueAt g i)
+
+-- where the answer is a refusal its number is not 0: 0 is said of what is done alone
+abbrev pub Numbered : {A : Type 0} → (ℕ → A) → A → Type 0
+Numbered refused answer = (n : ℕ) → answer ≡ refused n → n ≡ done → ⊥

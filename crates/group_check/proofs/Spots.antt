@@ -1,6 +1,6 @@
 -- What is found is one of the sixteen places, and it says yes
-use Prim.Native.Nat.{ℕ, zero, suc, _+_, _-_, _<_, _≤_}
-use mathlib.Core.Path.{_≡_, refl, sym, ap, _∙_}
+use Prim.Native.Nat.{ℕ, suc, _+_, _<_}
+use mathlib.Core.Path.{_≡_, refl, ap, _∙_}
 use mathlib.Core.Bool.{Bool, true, false, not}
 use mathlib.Core.List.{List, [], _∷_}
 use native.Mathlib.Omega.{arith}
@@ -18,7 +18,7 @@ use Rattle.group_record.specs.declared.questions.Question.{Question}
 use Rattle.group_record.specs.declared.questions.Question.the-variants.{Holds}
 use Rattle.group_check.specs.declared.ids.Spot.{Spot}
 
-pub found-below : (says : Place → Bool) (k : ℕ) (ps : List Place) (i : ℕ) → firstFrom says k ps ≡ At i → i < k + length ps
+found-below : (says : Place → Bool) (k : ℕ) (ps : List Place) (i : ℕ) → firstFrom says k ps ≡ At i → i < k + length ps
 found-below says k [] i e = let z : _≡_ {A = ℕ} 0 1 = cc in absurd (omega arith)
 found-below says k (p ∷ ps) i e = go (says p) (found-below says (suc k) ps i) e
   where

@@ -1,12 +1,13 @@
--- When a group record is well formed: document 01, "Groups", its fourth sentence, a named clause each
+-- When a group record is well formed: document 01, "Groups", "The record is well formed if ..", a named clause each
 use Prim.Native.Nat.{ℕ}
-use mathlib.Core.Bool.{Bool, true, false, not, _&&_}
+use mathlib.Core.Bool.{Bool, true, not, _&&_}
 use mathlib.Core.List.{List, [], _∷_}
 use lib.Dec.{leb}
 use Rattle.stage.specs.Choice.{implies}
+use Rattle.queue_record.specs.Newest.{isThere}
 use Rattle.queue_record.specs.WellFormed.{allTrue}
 use Rattle.group_record.specs.Questions.{asksOf}
-use Rattle.group_record.specs.Scan.{firstFrom, isThere, someYes}
+use Rattle.group_record.specs.Scan.{firstFrom, someYes}
 use Rattle.group_record.specs.declared.record.Place.{Place}
 use Rattle.group_record.specs.declared.record.Groups.{Groups}
 use Rattle.group_record.specs.declared.questions.Question.the-variants.{Littered, Live, Holds, PastNext, Foreign}

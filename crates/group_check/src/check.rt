@@ -48,7 +48,7 @@ fn sealed_fits(g: Groups) -> bool
     !some(g, Question::Live)
 }
 
-// Whether the record is well formed.
+// What every call but `new` asks first. The two clauses that need no walk come first.
 pub fn well_grouped(g: Groups) -> bool
     ensures { λ r. ⌜ r ≡ wellGrouped g ⌝ }
 {

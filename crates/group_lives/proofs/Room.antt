@@ -1,6 +1,6 @@
 -- What it means that a record is not sealed, and that there is room in it
 use Prim.Native.Nat.{ℕ, _+_, _<_, _≤_}
-use mathlib.Core.Path.{_≡_, refl, ap}
+use mathlib.Core.Path.{_≡_, refl, ap, _∙_}
 use mathlib.Core.Bool.{Bool, true, false, not}
 use mathlib.Core.List.{[]}
 use native.Mathlib.Omega.{arith}
@@ -8,6 +8,7 @@ use borrow.Author.Tests.{leb-false}
 use lib.Dec.{leb}
 use lib.ListN.{length}
 use Rattle.stage.specs.Choice.{if_then_else_}
+use Rattle.stage.proofs.Ways.{miss}
 use Rattle.queue_record.specs.Refusals.{broken, sealed, noId}
 use Rattle.queue_record.specs.declared.search.Found.{Found}
 use Rattle.queue_record.specs.declared.search.Found.the-variants.{At, Missing}
@@ -30,6 +31,9 @@ unsealed-means g e = go (wellGrouped g) refl (g .sealed) refl e
     go true w false s q = (w, s)
     go true w true s q = let z : _≡_ {A = ℕ} 0 1 = cc in absurd (omega arith)
     go false w s t q = let z : _≡_ {A = ℕ} 0 1 = cc in absurd (omega arith)
+
+pub means-unsealed : (g : Groups) → wellGrouped g ≡ true → g .sealed ≡ false → unsealed g ≡ Open
+means-unsealed g w s = miss (Opened.Refused broken) (ap not w) ∙ miss (Opened.Refused sealed) s
 
 -- the next domain is a u64
 pub domain-fits : (g : Groups) → unsealed g ≡ Open → g .base + g .next ≤ 18446744073709551615

@@ -1,4 +1,4 @@
--- A new record and the openings of groups: document 01, "Groups", first, second and fifth sentence
+-- A new record and the openings of groups: document 01, "Groups", first, second, fourth and fifth sentence
 use Prim.Native.Nat.{ℕ, _+_}
 use mathlib.Core.Bool.{not}
 use mathlib.Core.List.{List, []}

@@ -107,7 +107,7 @@ fn add(g: Groups, queue: Queue) -> AddAnswer
     }
 }
 
-// Opens a scope.
+// A scope has no bindings: it never gets 14.
 pub fn add_scope(g: Groups) -> AddAnswer
     ensures { λ r. ⌜ r ≡ addedScope g ⌝ }
 {

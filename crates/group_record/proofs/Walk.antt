@@ -9,10 +9,10 @@ use lib.ListN.{length, getD, drop, drop-of-length-le}
 use lib.Seq.{drop-cons}
 use Rattle.stage.specs.Choice.{if_then_else_}
 use Rattle.stage.proofs.Ways.{hit, miss}
-use Rattle.queue_record.specs.declared.search.Found.{Found}
+use Rattle.queue_record.specs.Newest.{isThere}
 use Rattle.queue_record.specs.declared.search.Found.the-variants.{At, Missing}
 use Rattle.group_record.specs.Record.{nowhere}
-use Rattle.group_record.specs.Scan.{firstFrom, isThere}
+use Rattle.group_record.specs.Scan.{firstFrom}
 use Rattle.group_record.specs.declared.record.Place.{Place}
 
 -- the places from i on, apart

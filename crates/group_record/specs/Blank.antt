@@ -1,26 +1,20 @@
--- The blank queue, as a test: a scope of domain 0, first attempt 0 (blank-only: no other queue passes)
+-- The blank queue, as a test: a scope of domain 0, first attempt 0 (blank-only: no other queue of 64 and 16 places passes)
 use mathlib.Core.Bool.{Bool, true, false, not, _&&_}
 use lib.Dec.{eqb}
 use Rattle.stage.specs.Phases.{differs}
 use Rattle.stage.specs.declared.phases.Phase.the-variants.{Ended}
-use Rattle.queue_record.specs.WellFormed.{allZero}
+use Rattle.queue_record.specs.WellFormed.{allZero, isSelected}
 use Rattle.queue_record.specs.declared.record.Kind.{Kind}
 use Rattle.queue_record.specs.declared.record.Kind.the-variants.{Scope, Iterator}
-use Rattle.queue_record.specs.declared.record.Selection.{Selection}
-use Rattle.queue_record.specs.declared.record.Selection.the-variants.{Free, Of}
 use Rattle.queue_record.specs.declared.record.Queue.{Queue}
 
 abbrev pub isScope : Kind → Bool
 isScope Scope = true
 isScope Iterator = false
 
-abbrev pub isFree : Selection → Bool
-isFree Free = true
-isFree (Of t) = false
-
 -- a scope that is Ended, with nothing selected and no mark
 abbrev pub unmarked : Queue → Bool
-unmarked q = isScope (q .kind) && (isFree (q .selection) && (not (q .failed) && (not (q .issued) && not (differs (q .phase) Ended))))
+unmarked q = isScope (q .kind) && (not (isSelected (q .selection)) && (not (q .failed) && (not (q .issued) && not (differs (q .phase) Ended))))
 
 -- every number is 0
 abbrev pub unnumbered : Queue → Bool

@@ -1,8 +1,9 @@
 -- The first place that answers a question with yes
 use Prim.Native.Nat.{ℕ, suc}
-use mathlib.Core.Bool.{Bool, true, false}
+use mathlib.Core.Bool.{Bool}
 use mathlib.Core.List.{List, [], _∷_}
 use Rattle.stage.specs.Choice.{if_then_else_}
+use Rattle.queue_record.specs.Newest.{isThere}
 use Rattle.queue_record.specs.declared.search.Found.{Found}
 use Rattle.queue_record.specs.declared.search.Found.the-variants.{At, Missing}
 use Rattle.group_record.specs.declared.record.Place.{Place}
@@ -14,10 +15,6 @@ use Rattle.group_record.specs.Questions.{asksOf}
 abbrev pub firstFrom : (Place → Bool) → ℕ → List Place → Found
 firstFrom says k [] = Missing
 firstFrom says k (p ∷ ps) = if says p then At k else firstFrom says (suc k) ps
-
-abbrev pub isThere : Found → Bool
-isThere Missing = false
-isThere (At k) = true
 
 abbrev pub firstYes : Groups → Question → List ℕ → Found
 firstYes g question target = firstFrom (asksOf question target) 0 (g .places)

@@ -7,7 +7,6 @@ mod setters;
 
 pub use questions::Question;
 pub use questions::is_drained;
-pub use questions::is_yes;
 pub use record::Groups;
 pub use record::Place;
 pub use scan::first_where;

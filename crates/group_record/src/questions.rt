@@ -32,7 +32,7 @@ pub enum Question {
     Undrained,
 }
 
-pub fn is_yes(told: Told) -> bool
+fn is_yes(told: Told) -> bool
     ensures { λ r. ⌜ r ≡ isYes told ⌝ }
 {
     match told {
@@ -91,7 +91,7 @@ fn is_finishing(id: u64, q: Queue, target: &[u64]) -> bool
     is_yes(can_finish(q, target))
 }
 
-// Empty, settled, not pending.
+// A settled stage is never pending: the last test is there since the paper names it, and changes no answer.
 pub fn is_drained(q: Queue) -> bool
     ensures { λ r. ⌜ r ≡ drained q ⌝ }
 {

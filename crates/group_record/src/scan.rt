@@ -6,8 +6,9 @@ use queue_record::Found;
 ghost use mathlib.Core.Path.{_≡_};
 ghost use mathlib.Core.List.{[]};
 ghost use lib.ListN.{drop};
+ghost use Rattle.queue_record.specs.Newest.{isThere};
 ghost use Rattle.group_record.specs.Questions.{asksOf};
-ghost use Rattle.group_record.specs.Scan.{firstFrom, isThere, someYes};
+ghost use Rattle.group_record.specs.Scan.{firstFrom, someYes};
 
 // From the place `from` on; the target is for Unfinished.
 pub fn first_where(g: Groups, from: usize, question: Question, target: &[u64]) -> Found
@@ -34,7 +35,7 @@ pub fn some_from(g: Groups, from: usize, question: Question, target: &[u64]) -> 
     true
 }
 
-// Whether some place answers yes.
+// For a question that looks at no target: an empty one is lent.
 pub fn some(g: Groups, question: Question) -> bool
     ensures { λ r. ⌜ r ≡ someYes g question [] ⌝ }
 {

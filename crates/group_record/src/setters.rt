@@ -18,7 +18,7 @@ pub fn free_place() -> Place
     }
 }
 
-pub fn live_place(id: u64, queue: Queue) -> Place
+fn live_place(id: u64, queue: Queue) -> Place
     ensures { λ r. ⌜ r ≡ livePlace id queue ⌝ }
 {
     Place {

@@ -1,4 +1,5 @@
--- The calls that ask of all live groups: document 01, "Groups", last sentence; they refuse only with 1
+-- The calls that ask of the whole record: document 01, "Groups", last sentence, and upstream's contains, is_empty, len and
+-- can_add_iterator; they refuse only with 1
 use Prim.Native.Nat.{ℕ}
 use mathlib.Core.Bool.{Bool, not, _&&_}
 use mathlib.Core.List.{List, []}
@@ -49,7 +50,7 @@ canRetryAllOf g = toldOf g (retriesAll g)
 abbrev pub canFinishOf : Groups → List ℕ → Told
 canFinishOf g target = toldOf g (not (someYes g Unfinished target))
 
--- can_seal: "sealing needs all live ones drained"
+-- can_seal: "sealing needs all live ones drained"; of a sealed record yes, as upstream's body, though seal gives 12
 abbrev pub canSealOf : Groups → Told
 canSealOf g = toldOf g (not (someYes g Undrained []))
 

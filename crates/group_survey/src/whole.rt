@@ -35,14 +35,13 @@ fn tell_none(g: Groups, question: Question) -> Told
     say(!some(g, question))
 }
 
-// Whether the id is live.
+// An id that is not live gets a no here, and not 10: this is the question whether it is.
 pub fn contains(g: Groups, id: u64) -> Told
     ensures { λ r. ⌜ r ≡ containsTold g id ⌝ }
 {
     tell(g, Question::Holds(id))
 }
 
-// Whether no group is live.
 pub fn is_empty(g: Groups) -> Told
     ensures { λ r. ⌜ r ≡ isEmptyOf g ⌝ }
 {
@@ -95,6 +94,7 @@ pub fn can_finish(g: Groups, target: &[u64]) -> Told
     say(!some_from(g, 0, Question::Unfinished, target))
 }
 
+// Of a sealed record yes, as upstream's body, though seal then gives 12.
 pub fn can_seal(g: Groups) -> Told
     ensures { λ r. ⌜ r ≡ canSealOf g ⌝ }
 {
@@ -129,7 +129,6 @@ pub enum LenTold {
     Refused(u64),
 }
 
-// How many groups are live.
 pub fn len(g: Groups) -> LenTold
     ensures { λ r. ⌜ r ≡ lenOf g ⌝ }
 {

@@ -2,7 +2,8 @@
 use mathlib.Core.Path.{sym, ap, _∙_}
 use mathlib.Core.Bool.{not}
 use Rattle.stage.proofs.Ways.{pass, stop}
-use Rattle.group_record.specs.Blank.{isScope, isFree}
+use Rattle.queue_record.specs.WellFormed.{isSelected}
+use Rattle.group_record.specs.Blank.{isScope}
 use borrow.Author.Needs.{needs}
 use Rattle.group_record.proofs.blanks.is_unmarked.Statement.{statement}
 use Rattle.group_record.proofs.blanks.is_unmarked.Tie as tie
@@ -16,8 +17,8 @@ is-unmarked-spec =
     (λ c. sym (stop _ (ap isScope (c .enum-told2 .given .1))))
     (λ c. search needs)
     (λ c. search needs)
-    (λ c. sym (pass _ (ap isScope (c .before .before .enum-told .given .1)) ∙ stop _ (ap isFree (c .enum-told4 .given .1))))
-    (λ c. sym (pass _ (ap isScope (c .before .before .before .enum-told .given .1)) ∙ (pass _ (ap isFree (c .before .enum-told3 .given .1)) ∙ stop _ (ap not (c .if1 .taken)))))
-    (λ c. sym (pass _ (ap isScope (c .before .before .before .before .enum-told .given .1)) ∙ (pass _ (ap isFree (c .before .before .enum-told3 .given .1)) ∙ (pass _ (ap not (c .before .if1 .left)) ∙ stop _ (ap not (c .if2 .taken))))))
+    (λ c. sym (pass _ (ap isScope (c .before .before .enum-told .given .1)) ∙ stop _ (ap not (ap isSelected (c .enum-told4 .given .1)))))
+    (λ c. sym (pass _ (ap isScope (c .before .before .before .enum-told .given .1)) ∙ (pass _ (ap not (ap isSelected (c .before .enum-told3 .given .1))) ∙ stop _ (ap not (c .if1 .taken)))))
+    (λ c. sym (pass _ (ap isScope (c .before .before .before .before .enum-told .given .1)) ∙ (pass _ (ap not (ap isSelected (c .before .before .enum-told3 .given .1))) ∙ (pass _ (ap not (c .before .if1 .left)) ∙ stop _ (ap not (c .if2 .taken))))))
     (λ c κs. search needs)
-    (λ c. ap not (c .differ .ensures) ∙ sym (pass _ (ap isScope (c .before .before .before .before .before .enum-told .given .1)) ∙ (pass _ (ap isFree (c .before .before .before .enum-told3 .given .1)) ∙ (pass _ (ap not (c .before .before .if1 .left)) ∙ pass _ (ap not (c .before .if2 .left)))))))
+    (λ c. ap not (c .differ .ensures) ∙ sym (pass _ (ap isScope (c .before .before .before .before .before .enum-told .given .1)) ∙ (pass _ (ap not (ap isSelected (c .before .before .before .enum-told3 .given .1))) ∙ (pass _ (ap not (c .before .before .if1 .left)) ∙ pass _ (ap not (c .before .if2 .left)))))))

@@ -1,6 +1,6 @@
 -- Found or not
 use mathlib.Core.Path.{sym, ap, _∙_}
-use Rattle.group_record.specs.Scan.{isThere}
+use Rattle.queue_record.specs.Newest.{isThere}
 use borrow.Author.Needs.{needs}
 use Rattle.group_record.proofs.scan.some_from.Statement.{statement}
 use Rattle.group_record.proofs.scan.some_from.Tie as tie
