@@ -1,6 +1,7 @@
 pub mod Written
 pub mod RowOfCall
 pub mod Steps
+pub mod Refused
 pub mod Spoken
 pub mod CallOfRow
 pub mod Demand
