@@ -53,7 +53,7 @@ one-row a b h =
     ∙ (ap (λ (x : ℕ). rowOf (b .kind) (b .token) (b .attempt) x (a .number)) (c .outcome)
     ∙ ap (λ (x : ℕ). rowOf (b .kind) (b .token) (b .attempt) (b .outcome) x) (c .number))))
 
--- the call c, accepted on the bench b, writes the row r
+-- some call, accepted on the bench b, writes the row r
 pub record Writes (b : Bench) (r : Row) : Type 0 where
   pub call : Call
   pub fine : numberOf b call ≡ done
