@@ -28,7 +28,7 @@ use Rattle.history.specs.Histories.{Bench, bench, called, numberOf, Star
 use Rattle.history.proofs.Exhibit.{lent, shown, ofEachKind}
 
 -- ---- calls that are made lead from a history to a history
-made-history : {s : Start} {a b : Bench} {cs : List Call} → History s a → Made a cs b → History s b
+pub made-history : {s : Start} {a b : Bench} {cs : List Call} → History s a → Made a cs b → History s b
 made-history h none = h
 made-history h (one {c = c} e m) = made-history (calls h c e) m
 

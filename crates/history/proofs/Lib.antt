@@ -11,3 +11,4 @@ pub mod Computed
 pub mod Outs
 pub mod Rising
 pub mod Lives
+pub mod Fitting
