@@ -19,7 +19,7 @@ abbrev pub allDigits : List ℕ → Bool
 allDigits [] = true
 allDigits (b ∷ bs) = isDigit b && allDigits bs
 
-pub value-snoc : (v : ℕ) (bs : List ℕ) (b : ℕ) → valueOf v (bs ++ (b ∷ [])) ≡ valueOf v bs * 10 + digitOf b
+value-snoc : (v : ℕ) (bs : List ℕ) (b : ℕ) → valueOf v (bs ++ (b ∷ [])) ≡ valueOf v bs * 10 + digitOf b
 value-snoc v [] b = refl
 value-snoc v (x ∷ bs) b = value-snoc (v * 10 + digitOf x) bs b
 
@@ -28,15 +28,15 @@ pub value-grows : (v : ℕ) (bs : List ℕ) → v ≤ valueOf v bs
 value-grows v [] = omega arith
 value-grows v (b ∷ bs) = let g = value-grows (v * 10 + digitOf b) bs in omega arith
 
-pub digits-snoc : (bs : List ℕ) (b : ℕ) → allDigits bs ≡ true → isDigit b ≡ true → allDigits (bs ++ (b ∷ [])) ≡ true
+digits-snoc : (bs : List ℕ) (b : ℕ) → allDigits bs ≡ true → isDigit b ≡ true → allDigits (bs ++ (b ∷ [])) ≡ true
 digits-snoc [] b h d = pass _ d
 digits-snoc (x ∷ bs) b h d = pass _ (and-left (isDigit x) _ h) ∙ digits-snoc bs b (and-right (isDigit x) _ h) d
 
-pub glyph-digit : (d : ℕ) → d < 10 → isDigit (48 + d) ≡ true
+glyph-digit : (d : ℕ) → d < 10 → isDigit (48 + d) ≡ true
 unfolding isDigit
 glyph-digit d h = pass _ (le-leb 48 (48 + d) (omega arith)) ∙ le-leb (48 + d) 57 (omega arith)
 
-pub glyph-value : (d : ℕ) → digitOf (48 + d) ≡ d
+glyph-value : (d : ℕ) → digitOf (48 + d) ≡ d
 unfolding digitOf
 glyph-value d = omega arith
 

@@ -4,9 +4,9 @@ use mathlib.Core.Path.{_≡_, sym, ap, _∙_, subst}
 use mathlib.Core.Logic.{_↔_}
 use mathlib.Core.List.{List}
 use native.Mathlib.Omega.{arith}
-use lib.ListN.{length, drop-of-length-le}
+use lib.ListN.{length, take, drop-of-length-le}
 use lib.Seq.{length-take-le}
-use Rattle.queue_record.specs.Refusals.{done}
+use Rattle.queue_record.specs.Refusals.{done, badLog}
 use Rattle.queue_record.specs.declared.record.Kind.{Kind}
 use Rattle.queue_record.specs.declared.openings.Opened.{Opened}
 use Rattle.log_rows.specs.Rows.{rows}
@@ -37,6 +37,12 @@ pub history-read : (s : Start) (b : Bench) → History s b → (r : Reading) →
 history-read s b h r (refusedOpening e) = let o = unrefused s b h in let z : _≡_ {A = ℕ} 0 1 = cc in absurd (omega arith)
 history-read s b h r (badAt place o bad) = absurd (bad-place-stop (opening s) (wordsOf b) place .0 bad .1 (history-words s b h))
 history-read s b h r (goodLog o w) = ap (λ (n : ℕ). reading (Read.Good n) (endOf (openedQueue s) (rowsOf b))) (stands s b h .counted) ∙ ap (reading (Read.Good (b .used))) (sym (history-ends s b h))
+
+-- of a log with a bad row it gives the record that any history leaves which wrote the rows before that row
+pub bad-read : (s : Start) (b : Bench) → History s b → (log : List ℕ) (r : Reading) → ReadsAs (s .kind) (s .domain) (s .first) (s .bindings) log r → readSays (r .answer) .0 ≡ badLog → rowsOf b ≡ take (readSays (r .answer) .1) (rows log) → r .queue ≡ b .queue
+bad-read s b h log r (refusedOpening e) z same = absurd (omega arith)
+bad-read s b h log r (badAt place o bad) z same = sym (history-ends s b h ∙ ap (endOf (openedQueue s)) same)
+bad-read s b h log r (goodLog o w) z same = absurd (omega arith)
 
 module _ (kind : Kind) (domain first : ℕ) (bindings log : List ℕ) where
   abbrev from : List ℕ → Start

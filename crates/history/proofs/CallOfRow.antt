@@ -2,11 +2,12 @@
 use Prim.Native.Nat.{ℕ, zero, suc, _+_}
 use mathlib.Core.Path.{_≡_, refl, sym, ap, _∙_}
 use mathlib.Core.Bool.{true, _&&_}
+use mathlib.Core.List.{[], _∷_}
 use native.Mathlib.Omega.{arith}
 use Rattle.stage.specs.Phases.{next, differs}
 use Rattle.stage.specs.declared.phases.Event.{Event}
 use Rattle.stage.specs.declared.phases.Event.the-variants.{Admit, End, Cancel}
-use Rattle.stage.proofs.Ways.{and-left, and-right, clash}
+use Rattle.stage.proofs.Ways.{pass, and-left, and-right, clash}
 use Rattle.queue_record.specs.Refusals.{done, broken, logFull}
 use Rattle.queue_record.specs.WellFormed.{wellFormed}
 use Rattle.queue_record.specs.declared.record.Queue.{Queue}
@@ -39,7 +40,9 @@ use Rattle.log_reader.specs.Replay.{sameRow, birthFits, popFits, completeFits, 
 use Rattle.log_reader.specs.declared.replay.Replayed.{Replayed}
 use Rattle.log_reader.proofs.ByKind.{Columns, columns, at0, at1, at2, at3, at4, at5, at6, at7, past7}
 use Rattle.log_reader.proofs.RowsKeep.{admit-moves, end-moves, cancel-moves}
+use Rattle.log_language.specs.Readings.{every}
 use Rattle.history.specs.Histories.{Bench, bench, called, numberOf}
+use Rattle.history.specs.Fits.{isWord, fits, rowFits}
 use Rattle.history.proofs.Written.{Put, goes}
 use Rattle.history.proofs.Steps.{benches}
 
@@ -53,11 +56,22 @@ one-row a b h =
     ∙ (ap (λ (x : ℕ). rowOf (b .kind) (b .token) (b .attempt) x (a .number)) (c .outcome)
     ∙ ap (λ (x : ℕ). rowOf (b .kind) (b .token) (b .attempt) (b .outcome) x) (c .number))))
 
--- the call c, accepted on the bench b, writes the row r
+-- some call, accepted on the bench b, writes the row r
 pub record Writes (b : Bench) (r : Row) : Type 0 where
   pub call : Call
   pub fine : numberOf b call ≡ done
   pub left : called b call ≡ bench (after (b .queue) call) (b .used + 1) (appended (b .log) (b .used) r)
+  -- of 64-bit words it has 64-bit inputs
+  pub words : isWord (b .queue .domain) ≡ true → rowFits r ≡ true → fits call ≡ true
+
+-- the number of a birth row is the birth's
+number-fits : (k n t : ℕ) (r : Row) → rowOf k t 0 0 n ≡ r → rowFits r ≡ true → every isWord (n ∷ []) ≡ true
+number-fits k n t r e h =
+    let h0 : every isWord (k ∷ t ∷ 0 ∷ 0 ∷ n ∷ []) ≡ true = ap rowFits e ∙ h in
+    let h1 = and-right (isWord k) (every isWord (t ∷ 0 ∷ 0 ∷ n ∷ [])) h0 in
+    let h2 = and-right (isWord t) (every isWord (0 ∷ 0 ∷ n ∷ [])) h1 in
+    let h3 = and-right (isWord 0) (every isWord (0 ∷ n ∷ [])) h2 in
+    and-right (isWord 0) (every isWord (n ∷ [])) h3
 
 module _ (b : Bench) (w : wellFormed (b .queue) ≡ true) (p : Put (b .log) (b .used)) (r : Row) where
   abbrev q : Queue
@@ -67,13 +81,13 @@ module _ (b : Bench) (w : wellFormed (b .queue) ≡ true) (p : Put (b .log) (b .
   unfolding registerRecorded registerLogged
   writes-register n t a e =
       let g = goes birthSaid (λ (x : RegisterRecorded). x .queue) (λ (x : RegisterRecorded). x .used) (λ (x : RegisterRecorded). registeredSays (x .answer) .number) (λ x y z. refl) (λ x y z. refl) (Registered.Refused logFull n) (Registered.Refused broken n) (registered q n .answer) q (registered q n .queue) (b .used) (b .log) (birthRow 0 n (registered q n .answer)) (isBirth (registered q n .answer)) (λ k. omega arith) (λ k. omega arith) p (ap isBirth a) in
-      record { call = register n; fine = ap (λ (x : RegisterRecorded). registeredSays (x .answer) .number) (g .0) ∙ ap (λ (x : Registered). registeredSays x .number) a; left = benches (ap (λ (x : RegisterRecorded). x .queue) (g .0)) (ap (λ (x : RegisterRecorded). x .used) (g .0)) (g .1 ∙ ap (appended (b .log) (b .used)) (ap (birthRow 0 n) a ∙ e)) }
+      record { call = register n; words = λ _ h. number-fits 0 n t r e h; fine = ap (λ (x : RegisterRecorded). registeredSays (x .answer) .number) (g .0) ∙ ap (λ (x : Registered). registeredSays x .number) a; left = benches (ap (λ (x : RegisterRecorded). x .queue) (g .0)) (ap (λ (x : RegisterRecorded). x .used) (g .0)) (g .1 ∙ ap (appended (b .log) (b .used)) (ap (birthRow 0 n) a ∙ e)) }
 
   writes-land : (n t : ℕ) → landed q n .answer ≡ Registered.Token t → rowOf 1 t 0 0 n ≡ r → Writes b r
   unfolding landRecorded landLogged
   writes-land n t a e =
       let g = goes birthSaid (λ (x : RegisterRecorded). x .queue) (λ (x : RegisterRecorded). x .used) (λ (x : RegisterRecorded). registeredSays (x .answer) .number) (λ x y z. refl) (λ x y z. refl) (Registered.Refused logFull n) (Registered.Refused broken n) (landed q n .answer) q (landed q n .queue) (b .used) (b .log) (birthRow 1 n (landed q n .answer)) (isBirth (landed q n .answer)) (λ k. omega arith) (λ k. omega arith) p (ap isBirth a) in
-      record { call = land n; fine = ap (λ (x : RegisterRecorded). registeredSays (x .answer) .number) (g .0) ∙ ap (λ (x : Registered). registeredSays x .number) a; left = benches (ap (λ (x : RegisterRecorded). x .queue) (g .0)) (ap (λ (x : RegisterRecorded). x .used) (g .0)) (g .1 ∙ ap (appended (b .log) (b .used)) (ap (birthRow 1 n) a ∙ e)) }
+      record { call = land n; words = λ _ h. number-fits 1 n t r e h; fine = ap (λ (x : RegisterRecorded). registeredSays (x .answer) .number) (g .0) ∙ ap (λ (x : Registered). registeredSays x .number) a; left = benches (ap (λ (x : RegisterRecorded). x .queue) (g .0)) (ap (λ (x : RegisterRecorded). x .used) (g .0)) (g .1 ∙ ap (appended (b .log) (b .used)) (ap (birthRow 1 n) a ∙ e)) }
 
   writes-pop : popFits (popped q .answer) r ≡ true → Writes b r
   unfolding popRecorded popLogged
@@ -82,7 +96,7 @@ module _ (b : Bench) (w : wellFormed (b .queue) ≡ true) (p : Put (b .log) (b .
       go : (a : Popped) → popped q .answer ≡ a → popFits a r ≡ true → Writes b r
       go (Popped.Work t n) e k =
           let g = goes popSaid (λ (x : PopRecorded). x .queue) (λ (x : PopRecorded). x .used) (λ (x : PopRecorded). poppedSays (x .answer) .number) (λ x y z. refl) (λ x y z. refl) (Popped.Refused logFull) (Popped.Refused broken) (popped q .answer) q (popped q .queue) (b .used) (b .log) (popRow (popped q .answer)) (isWork (popped q .answer)) (λ k. omega arith) (λ k. omega arith) p (ap isWork e) in
-          record { call = pop; fine = ap (λ (x : PopRecorded). poppedSays (x .answer) .number) (g .0) ∙ ap (λ (x : Popped). poppedSays x .number) e; left = benches (ap (λ (x : PopRecorded). x .queue) (g .0)) (ap (λ (x : PopRecorded). x .used) (g .0)) (g .1 ∙ ap (appended (b .log) (b .used)) (ap popRow e ∙ one-row (rowOf 2 (t .token) (t .attempt) 0 0) r k)) }
+          record { call = pop; words = λ _ _. refl; fine = ap (λ (x : PopRecorded). poppedSays (x .answer) .number) (g .0) ∙ ap (λ (x : Popped). poppedSays x .number) e; left = benches (ap (λ (x : PopRecorded). x .queue) (g .0)) (ap (λ (x : PopRecorded). x .used) (g .0)) (g .1 ∙ ap (appended (b .log) (b .used)) (ap popRow e ∙ one-row (rowOf 2 (t .token) (t .attempt) 0 0) r k)) }
       go Popped.Nothing e k = clash k refl
       go (Popped.Refused n) e k = clash k refl
 
@@ -93,7 +107,7 @@ module _ (b : Bench) (w : wellFormed (b .queue) ≡ true) (p : Put (b .log) (b .
       go : (a : Completed) → completed q (rowTicket q r) (r .outcome) (r .number) .answer ≡ a → completeFits a ≡ true → Writes b r
       go Completed.Settled e k =
           let g = goes completeSaid (λ (x : CompleteRecorded). x .queue) (λ (x : CompleteRecorded). x .used) (λ (x : CompleteRecorded). completedSays (x .answer) .number) (λ x y z. refl) (λ x y z. refl) (Completed.Refused logFull (r .number)) (Completed.Refused broken (r .number)) (completed q (rowTicket q r) (r .outcome) (r .number) .answer) q (completed q (rowTicket q r) (r .outcome) (r .number) .queue) (b .used) (b .log) (rowOf 3 (r .token) (r .attempt) (r .outcome) (r .number)) (isSettledAnswer (completed q (rowTicket q r) (r .outcome) (r .number) .answer)) (λ k. omega arith) (λ k. omega arith) p (ap isSettledAnswer e) in
-          record { call = complete (rowTicket q r) (r .outcome) (r .number); fine = ap (λ (x : CompleteRecorded). completedSays (x .answer) .number) (g .0) ∙ ap (λ (x : Completed). completedSays x .number) e; left = benches (ap (λ (x : CompleteRecorded). x .queue) (g .0)) (ap (λ (x : CompleteRecorded). x .used) (g .0)) (g .1 ∙ ap (λ (x : ℕ). appended (b .log) (b .used) (rowOf x (r .token) (r .attempt) (r .outcome) (r .number))) (sym kind)) }
+          record { call = complete (rowTicket q r) (r .outcome) (r .number); words = λ d f. pass _ d ∙ and-right (isWord (r .kind)) _ f; fine = ap (λ (x : CompleteRecorded). completedSays (x .answer) .number) (g .0) ∙ ap (λ (x : Completed). completedSays x .number) e; left = benches (ap (λ (x : CompleteRecorded). x .queue) (g .0)) (ap (λ (x : CompleteRecorded). x .used) (g .0)) (g .1 ∙ ap (λ (x : ℕ). appended (b .log) (b .used) (rowOf x (r .token) (r .attempt) (r .outcome) (r .number))) (sym kind)) }
       go (Completed.Refused m n) e k = clash k refl
 
   writes-retry : retryFits (retried q .answer) r ≡ true → Writes b r
@@ -103,7 +117,7 @@ module _ (b : Bench) (w : wellFormed (b .queue) ≡ true) (p : Put (b .log) (b .
       go : (a : Retried) → retried q .answer ≡ a → retryFits a r ≡ true → Writes b r
       go (Retried.Again t) e k =
           let g = goes retrySaid (λ (x : RetryRecorded). x .queue) (λ (x : RetryRecorded). x .used) (λ (x : RetryRecorded). retriedSays (x .answer) .number) (λ x y z. refl) (λ x y z. refl) (Retried.Refused logFull) (Retried.Refused broken) (retried q .answer) q (retried q .queue) (b .used) (b .log) (retryRow (retried q .answer)) (isRenewed (retried q .answer)) (λ k. omega arith) (λ k. omega arith) p (ap isRenewed e) in
-          record { call = retry; fine = ap (λ (x : RetryRecorded). retriedSays (x .answer) .number) (g .0) ∙ ap (λ (x : Retried). retriedSays x .number) e; left = benches (ap (λ (x : RetryRecorded). x .queue) (g .0)) (ap (λ (x : RetryRecorded). x .used) (g .0)) (g .1 ∙ ap (appended (b .log) (b .used)) (ap retryRow e ∙ one-row (rowOf 4 (t .token) (t .attempt) 0 0) r k)) }
+          record { call = retry; words = λ _ _. refl; fine = ap (λ (x : RetryRecorded). retriedSays (x .answer) .number) (g .0) ∙ ap (λ (x : Retried). retriedSays x .number) e; left = benches (ap (λ (x : RetryRecorded). x .queue) (g .0)) (ap (λ (x : RetryRecorded). x .used) (g .0)) (g .1 ∙ ap (appended (b .log) (b .used)) (ap retryRow e ∙ one-row (rowOf 4 (t .token) (t .attempt) 0 0) r k)) }
       go (Retried.Refused n) e k = clash k refl
 
   -- a well-formed record's stage calls are answered
@@ -124,7 +138,7 @@ module _ (b : Bench) (w : wellFormed (b .queue) ≡ true) (p : Put (b .log) (b .
       let k = moves-of Admit 5 kind h in
       let c : moved q (admitted q true .queue) ≡ true = ap (λ (x : Queue). differs (q .phase) (x .phase)) (admit-moves q w) ∙ k .0 in
       let g = goes stageSaid (λ (x : StageRecorded). x .queue) (λ (x : StageRecorded). x .used) (λ (x : StageRecorded). toldSays (x .answer) .number) (λ x y z. refl) (λ x y z. refl) (Told.Refused logFull) (Told.Refused broken) (admitted q true .answer) q (admitted q true .queue) (b .used) (b .log) (rowOf 5 0 0 0 0) (moved q (admitted q true .queue)) (λ k. omega arith) (λ k. omega arith) p c in
-      record { call = admit true; fine = ap (λ (x : StageRecorded). toldSays (x .answer) .number) (g .0) ∙ (admit-number q true ∙ fine-stage); left = benches (ap (λ (x : StageRecorded). x .queue) (g .0)) (ap (λ (x : StageRecorded). x .used) (g .0)) (g .1 ∙ ap (appended (b .log) (b .used)) (k .1)) }
+      record { call = admit true; words = λ _ _. refl; fine = ap (λ (x : StageRecorded). toldSays (x .answer) .number) (g .0) ∙ (admit-number q true ∙ fine-stage); left = benches (ap (λ (x : StageRecorded). x .queue) (g .0)) (ap (λ (x : StageRecorded). x .used) (g .0)) (g .1 ∙ ap (appended (b .log) (b .used)) (k .1)) }
 
   writes-end : r .kind ≡ 6 → replayedStage q End r .fits ≡ true → Writes b r
   unfolding endRecorded endLogged
@@ -132,7 +146,7 @@ module _ (b : Bench) (w : wellFormed (b .queue) ≡ true) (p : Put (b .log) (b .
       let k = moves-of End 6 kind h in
       let c : moved q (ended q .queue) ≡ true = ap (λ (x : Queue). differs (q .phase) (x .phase)) (end-moves q w) ∙ k .0 in
       let g = goes stageSaid (λ (x : StageRecorded). x .queue) (λ (x : StageRecorded). x .used) (λ (x : StageRecorded). toldSays (x .answer) .number) (λ x y z. refl) (λ x y z. refl) (Told.Refused logFull) (Told.Refused broken) (ended q .answer) q (ended q .queue) (b .used) (b .log) (rowOf 6 0 0 0 0) (moved q (ended q .queue)) (λ k. omega arith) (λ k. omega arith) p c in
-      record { call = end; fine = ap (λ (x : StageRecorded). toldSays (x .answer) .number) (g .0) ∙ (end-number q ∙ fine-stage); left = benches (ap (λ (x : StageRecorded). x .queue) (g .0)) (ap (λ (x : StageRecorded). x .used) (g .0)) (g .1 ∙ ap (appended (b .log) (b .used)) (k .1)) }
+      record { call = end; words = λ _ _. refl; fine = ap (λ (x : StageRecorded). toldSays (x .answer) .number) (g .0) ∙ (end-number q ∙ fine-stage); left = benches (ap (λ (x : StageRecorded). x .queue) (g .0)) (ap (λ (x : StageRecorded). x .used) (g .0)) (g .1 ∙ ap (appended (b .log) (b .used)) (k .1)) }
 
   writes-cancel : r .kind ≡ 7 → replayedStage q Cancel r .fits ≡ true → Writes b r
   unfolding cancelRecorded cancelLogged
@@ -140,7 +154,7 @@ module _ (b : Bench) (w : wellFormed (b .queue) ≡ true) (p : Put (b .log) (b .
       let k = moves-of Cancel 7 kind h in
       let c : moved q (cancelledBy q .queue) ≡ true = ap (λ (x : Queue). differs (q .phase) (x .phase)) (cancel-moves q w) ∙ k .0 in
       let g = goes cancelSaid (λ (x : CancelRecorded). x .queue) (λ (x : CancelRecorded). x .used) (λ (x : CancelRecorded). cancelledSays (x .answer) .number) (λ x y z. refl) (λ x y z. refl) (Cancelled.Refused logFull) (Cancelled.Refused broken) (cancelledBy q .answer) q (cancelledBy q .queue) (b .used) (b .log) (rowOf 7 0 0 0 0) (moved q (cancelledBy q .queue)) (λ k. omega arith) (λ k. omega arith) p c in
-      record { call = cancel; fine = ap (λ (x : CancelRecorded). cancelledSays (x .answer) .number) (g .0) ∙ (cancel-number q ∙ fine-stage); left = benches (ap (λ (x : CancelRecorded). x .queue) (g .0)) (ap (λ (x : CancelRecorded). x .used) (g .0)) (g .1 ∙ ap (appended (b .log) (b .used)) (k .1)) }
+      record { call = cancel; words = λ _ _. refl; fine = ap (λ (x : CancelRecorded). cancelledSays (x .answer) .number) (g .0) ∙ (cancel-number q ∙ fine-stage); left = benches (ap (λ (x : CancelRecorded). x .queue) (g .0)) (ap (λ (x : CancelRecorded). x .used) (g .0)) (g .1 ∙ ap (appended (b .log) (b .used)) (k .1)) }
 
   birth-token : (k : ℕ) (a : Registered) → r .kind ≡ k → birthFits a r ≡ true → (t : ℕ) × (a ≡ Registered.Token t) × (rowOf k t 0 0 (r .number) ≡ r)
   birth-token k (Registered.Token t) kind h = (t, refl, ap (λ (x : ℕ). rowOf x t 0 0 (r .number)) (sym kind) ∙ one-row (rowOf (r .kind) t 0 0 (r .number)) r h)

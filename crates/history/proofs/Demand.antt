@@ -38,27 +38,38 @@ module _ (s : Start) (unrefused : openedAs (s .kind) (s .domain) (s .first) (s .
   unfolding rows
   first-of b l = record { end = bench (openedQueue s) 0 (s .memory); history = opens unrefused; wrote = refl; used = refl; behind = refl }
 
-  -- one row more, by the call that writes it
-  one-more : (rs : List Row) (r : Row) → Spoken rs → Spoken (rs ++ (r ∷ []))
-  one-more rs r ih b l =
+  -- one row more: the call that writes it, behind any history that wrote the rows before it
+  pub record More (x : Bench) (rs : List Row) (r : Row) : Type 0 where
+    pub write : Writes x r
+    pub wrote : rowsOf (called x (write .call)) ≡ rs ++ (r ∷ [])
+
+  pub row-more : (x : Bench) → History s x → (rs : List Row) (r : Row) → rowsOf x ≡ rs → Belongs (opening s) (rs ++ (r ∷ [])) → length (rs ++ (r ∷ [])) * 5 ≤ length (s .memory) → More x rs r
+  row-more x h rs r e b l =
       let m = one-more-may (opening s) rs r .0 b in
       let n : length (rs ++ (r ∷ [])) ≡ length rs + 1 = length-append rs (r ∷ []) in
-      let h : Leaves s rs = ih (m .0) (omega arith) in
-      let i : Stands s (h .end) = stands s (h .end) (h .history) in
-      let u : h .end .used ≡ length rs = h .used in
+      let i : Stands s x = stands s x h in
+      let u : x .used ≡ length rs = sym (i .counted) ∙ ap length e in
       let few : length rs < 4096 = m .1 in
-      let long : length (h .end .log) ≡ length (s .memory) = i .long in
-      let k : may (endState (opened (opening s)) (rowsOf (h .end))) r ≡ true = ap (λ (x : List Row). may (endState (opened (opening s)) x) r) (h .wrote) ∙ m .2 in
-      let f : replayed (h .end .queue) r .fits ≡ true = row-agrees (h .end .queue) (i .sound) (i .sized) r .fits ∙ (ap (λ (x : State). may x r) (i .state) ∙ k) in
-      let p : Put (h .end .log) (h .end .used) = room (h .end) (i .within) (omega arith) (omega arith) in
-      let w : Writes (h .end) r = writes (h .end) (i .sound) p r f in
-      let next : History s (called (h .end) (w .call)) = calls (h .history) (w .call) (w .fine) in
-      let e : rowsOf (called (h .end) (w .call)) ≡ rs ++ (r ∷ []) = ap rowsOf (w .left) ∙ (rows-after (h .end) r p (after (h .end .queue) (w .call)) ∙ ap (λ (x : List Row). x ++ (r ∷ [])) (h .wrote)) in
-      let v : called (h .end) (w .call) .used ≡ length (rs ++ (r ∷ [])) = ap (λ (x : Bench). x .used) (w .left) ∙ (ap (λ (x : ℕ). x + 1) u ∙ sym n) in
-      record { end = called (h .end) (w .call); history = next; wrote = e; used = v; behind = subst (λ (x : ℕ). drop (x * 5) (called (h .end) (w .call) .log) ≡ drop (x * 5) (s .memory)) v (stands s (called (h .end) (w .call)) next .behind) }
-    where
-      room : (x : Bench) → x .used * 5 ≤ length (x .log) → x .used < 4096 → x .used * 5 + 5 ≤ length (x .log) → Put (x .log) (x .used)
-      room x a c d = record { fits = fitted x a; room = room-there (length (x .log)) (x .used) c d }
+      let long : length (x .log) ≡ length (s .memory) = i .long in
+      let k : may (endState (opened (opening s)) (rowsOf x)) r ≡ true = ap (λ (y : List Row). may (endState (opened (opening s)) y) r) e ∙ m .2 in
+      let f : replayed (x .queue) r .fits ≡ true = row-agrees (x .queue) (i .sound) (i .sized) r .fits ∙ (ap (λ (y : State). may y r) (i .state) ∙ k) in
+      let p : Put (x .log) (x .used) = record { fits = fitted x (i .within); room = room-there (length (x .log)) (x .used) (omega arith) (omega arith) } in
+      let w : Writes x r = writes x (i .sound) p r f in
+      record { write = w; wrote = ap rowsOf (w .left) ∙ (rows-after x r p (after (x .queue) (w .call)) ∙ ap (λ (y : List Row). y ++ (r ∷ [])) e) }
+
+  -- a history that wrote these rows leaves the memory behind them
+  leaves : (x : Bench) → History s x → (rs : List Row) → rowsOf x ≡ rs → Leaves s rs
+  leaves x h rs e =
+      let i : Stands s x = stands s x h in
+      let u : x .used ≡ length rs = sym (i .counted) ∙ ap length e in
+      record { end = x; history = h; wrote = e; used = u; behind = subst (λ (n : ℕ). drop (n * 5) (x .log) ≡ drop (n * 5) (s .memory)) u (i .behind) }
+
+  one-more : (rs : List Row) (r : Row) → Spoken rs → Spoken (rs ++ (r ∷ []))
+  one-more rs r ih b l =
+      let n : length (rs ++ (r ∷ [])) ≡ length rs + 1 = length-append rs (r ∷ []) in
+      let h : Leaves s rs = ih (one-more-may (opening s) rs r .0 b .0) (omega arith) in
+      let m : More (h .end) rs r = row-more (h .end) (h .history) rs r (h .wrote) b l in
+      leaves (called (h .end) (m .write .call)) (calls (h .history) (m .write .call) (m .write .fine)) (rs ++ (r ∷ [])) (m .wrote)
 
   -- every log in the language, given memory with room for its rows, is left by some history
   pub language-spoken : (rs : List Row) → Spoken rs

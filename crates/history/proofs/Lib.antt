@@ -1,6 +1,7 @@
 pub mod Written
 pub mod RowOfCall
 pub mod Steps
+pub mod Refused
 pub mod Spoken
 pub mod CallOfRow
 pub mod Demand
@@ -10,3 +11,4 @@ pub mod Computed
 pub mod Outs
 pub mod Rising
 pub mod Lives
+pub mod Fitting

@@ -6,7 +6,7 @@ use mathlib.Core.Bool.{true}
 use mathlib.Core.List.{List, [], _∷_, _++_}
 use native.Mathlib.Omega.{arith}
 use lib.ListN.{length, take, drop, length-append}
-use lib.Seq.{length-take-le, drop-at, drop-drop}
+use lib.Seq.{drop-drop}
 use Rattle.stage.proofs.Ways.{hit}
 use Rattle.queue_record.specs.Record.{Sized}
 use Rattle.queue_record.specs.WellFormed.{wellFormed}
@@ -20,6 +20,7 @@ use Rattle.log_rows.specs.Rows.{rows, flat, written}
 use Rattle.log_rows.specs.Appending.{appended}
 use Rattle.log_rows.specs.declared.Row.{Row}
 use Rattle.log_rows.proofs.RowList.{rows-written}
+use Rattle.log_rows.proofs.OtherWords.{appended-behind}
 use Rattle.log_rows.proofs.Space.{room-fits, room-few, written-length}
 use Rattle.log_language.specs.Language.{Belongs}
 use Rattle.log_language.proofs.RowSteps.{State, opened, may, leave, endState}
@@ -93,13 +94,6 @@ module _ (s : Start) (b : Bench) (c : Call) (i : Stands s b) (w : Wrote b c) whe
   rows-are : rowsOf now ≡ rowsOf b ++ (w .row ∷ [])
   rows-are = rows-after b (w .row) (w .put) (after (b .queue) c)
 
-  head-long : length (take (b .used * 5) (b .log) ++ flat (w .row)) ≡ b .used * 5 + 5
-  head-long = let t : length (take (b .used * 5) (b .log)) ≡ b .used * 5 = length-take-le (b .used * 5) (b .log) (i .within) in simp length-append (omega arith)
-
-  behind-is : drop (b .used * 5 + 5) (written (b .log) (b .used) (flat (w .row))) ≡ drop (b .used * 5 + 5) (b .log)
-  unfolding written
-  behind-is = drop-at (take (b .used * 5) (b .log) ++ flat (w .row)) (drop (b .used * 5 + 5) (b .log)) (b .used * 5 + 5) head-long
-
   long-is : length (written (b .log) (b .used) (flat (w .row))) ≡ length (b .log)
   long-is = written-length (b .log) (b .used) (w .row) fits-in
 
@@ -124,7 +118,7 @@ module _ (s : Start) (b : Bench) (c : Call) (i : Stands s b) (w : Wrote b c) whe
         ended = sym (w .replays .leaves) ∙ (ap (λ (p : Queue). replayed p (w .row) .queue) (i .ended) ∙ (sym (end-more (openedQueue s) (rowsOf b) (w .row)) ∙ ap (endOf (openedQueue s)) (sym rows-are)));
         state = sym (ap stateOf (w .replays .leaves)) ∙ (a .leaves (w .replays .fits) ∙ (ap (λ (x : State). leave x (w .row)) (i .state) ∙ (sym (end-snoc (opened (opening s)) (rowsOf b) (w .row)) ∙ ap (endState (opened (opening s))) (sym rows-are))));
         long = l ∙ i .long;
-        behind = ap (λ (n : ℕ). drop n (appended (b .log) (b .used) (w .row))) five ∙ (ap (drop (b .used * 5 + 5)) log-is ∙ (behind-is ∙ (sym (drop-drop 5 (b .used * 5) (b .log)) ∙ (ap (drop 5) (i .behind) ∙ (drop-drop 5 (b .used * 5) (s .memory) ∙ ap (λ (n : ℕ). drop n (s .memory)) (sym five))))));
+        behind = appended-behind (b .log) (b .used) (w .row) ∙ (ap (λ (n : ℕ). drop n (b .log)) five ∙ (sym (drop-drop 5 (b .used * 5) (b .log)) ∙ (ap (drop 5) (i .behind) ∙ (drop-drop 5 (b .used * 5) (s .memory) ∙ ap (λ (n : ℕ). drop n (s .memory)) (sym five)))));
       }
 
 pub stands : (s : Start) (b : Bench) → History s b → Stands s b

@@ -1,4 +1,4 @@
--- What an accepted recorded call leaves: nothing, or one row more that the reader replays to the same record
+-- Recording, whichever the call: accepted, it leaves all as it was or one row more; with room, a change is written
 use Prim.Native.Nat.{ℕ, _+_}
 use mathlib.Core.Path.{_≡_, refl, ap, _∙_}
 use mathlib.Core.Logic.{_⊎_, inl, inr}
@@ -13,7 +13,6 @@ use Rattle.log_rows.specs.declared.Row.{Row}
 use Rattle.log_rows.specs.declared.Appended.the-variants.{Full, Used}
 use Rattle.log_calls.specs.Recording.{putBy, recordedBy, loggedBy}
 
--- ---- recording, whichever the call
 -- what is known where a row went in
 pub record Put (log : List ℕ) (used : ℕ) : Type 0 where
   pub fits : rowsFit (length log) used ≡ true

@@ -1,3 +1,4 @@
 pub mod Kept
 pub mod Idle
 pub mod Untouched
+pub mod OtherWords

@@ -16,7 +16,7 @@ pub struct Figures {
     pub failed: u64,
 }
 
-// Bytes at a place; the place behind them.
+// The place behind is handed back: what comes next goes there.
 fn put(out: &mut [u8], at: usize, bytes: &[u8]) -> usize
     requires { ⌜ at + length (now bytes) ≤ length (now out) ⌝ }
     ensures { λ r. ⌜ r ≡ at + length (now (bytes .entry)) ⌝ }
@@ -30,7 +30,7 @@ fn put(out: &mut [u8], at: usize, bytes: &[u8]) -> usize
     at + bytes.len()
 }
 
-// A number's decimal and what stands behind it.
+// No number of the answer stands alone: a comma or the line's end goes with it.
 fn put_number(out: &mut [u8], at: usize, n: u64, behind: &[u8]) -> usize
     requires { ⌜ at + 20 + length (now behind) ≤ length (now out) ⌝ }
     ensures { λ r. ⌜ r ≡ at + length (decimal n ++ now (behind .entry)) ⌝ }
@@ -42,7 +42,7 @@ fn put_number(out: &mut [u8], at: usize, n: u64, behind: &[u8]) -> usize
     put(out, end, behind)
 }
 
-// Numbers, each with its comma.
+// The last value is written apart, since a line's end stands behind it and no comma.
 fn put_fields(out: &mut [u8], from: usize, numbers: &[u64]) -> usize
     requires { ⌜ from + 21 * length (now numbers) ≤ length (now out) ⌝ }
     ensures { λ r. ⌜ r ≡ from + length (fields (now (numbers .entry))) ⌝ }
@@ -57,7 +57,7 @@ fn put_fields(out: &mut [u8], from: usize, numbers: &[u64]) -> usize
     at
 }
 
-// The line of names, and the line of values.
+// 256 bytes hold both lines, whatever the seven numbers are: 51, and at most 148.
 pub(crate) fn report(f: Figures, out: &mut [u8]) -> usize
     requires { ⌜ length (now out) ≡ 256 ⌝ }
     ensures { λ r. ⌜ r ≡ length (reportText f) ⌝ }
