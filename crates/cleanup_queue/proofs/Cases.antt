@@ -6,13 +6,13 @@ use mathlib.Core.List.{List, [], _∷_}
 use native.Mathlib.Omega.{arith}
 use native.Mathlib.Numerals.{add-one}
 use borrow.Author.Tests.{lt-leb, le-leb}
-use lib.ListN.{replicate}
 use Rattle.stage.specs.Bindings.{sameSet}
 use Rattle.stage.specs.declared.phases.Phase.the-variants.{Ended}
 use Rattle.stage.proofs.Ways.{hit, miss}
+use Rattle.queue_record.specs.Record.{withSlot, withCount, withSelection, withFailed, withIssued}
 use Rattle.queue_record.specs.WellFormed.{wellFormed}
 use Rattle.queue_record.specs.Newest.{newest}
-use Rattle.queue_record.specs.Openings.{scopeOf, iteratorOf, iteratorOpened}
+use Rattle.queue_record.specs.Openings.{opened, scopeOf, iteratorOf, iteratorOpened}
 use Rattle.queue_record.specs.declared.record.Kind.the-variants.{Scope}
 use Rattle.queue_record.specs.declared.record.Ticket.{Ticket}
 use Rattle.queue_record.specs.declared.record.Selection.{Selection}
@@ -32,7 +32,7 @@ abbrev ticket : ℕ → ℕ → Ticket
 ticket token attempt = record { domain = 0; token = token; attempt = attempt }
 
 abbrev at : ℕ → ℕ → ℕ → Selection → Bool → Bool → Queue
-at next first second s failed issued = record { kind = Scope; domain = 0; next = next; slots = first ∷ second ∷ replicate 62 0; count = 2; selection = s; failed = failed; issued = issued; phase = Ended; bindings = replicate 16 0; bound = 0 }
+at next first second s failed issued = withIssued (withFailed (withSelection (withCount (withSlot (withSlot (opened Scope Ended 0 next []) 0 first) 1 second) 2) s) failed) issued
 
 two-is : two ≡ at 0 71 72 Free false false
 unfolding wellFormed scopeOf registered

@@ -66,10 +66,9 @@ module _ (q : Queue) (n : ℕ) where
   grown-fit h k =
       let f : Fit q = fit q h in
       record {
+        given = f .given;
         count = omega arith;
-        bound = f .bound;
         slots = ap allZero (drop-set-lt (q .count + 1) (q .slots) (q .count) n (omega arith)) ∙ rest-more (q .count) (q .slots) (f .slots);
-        bindings = f .bindings;
         scope = f .scope;
         ticket = born-ticket (q .selection) (f .ticket);
         marks = f .marks;
@@ -99,7 +98,7 @@ scope-moves Iterator b p e h = refl
 scope-moves Scope b p e h = pass _ (and-left (eqb b 0) (isSettled p) h) ∙ stays-settled p e (and-right (eqb b 0) (isSettled p) h)
 
 phase-fits : (q : Queue) (p : Phase) → Fit q → scopeFits (q .kind) (q .bound) p ≡ true → wellFormed (withPhase q p) ≡ true
-phase-fits q p f s = fits (withPhase q p) (record { count = f .count; bound = f .bound; slots = f .slots; bindings = f .bindings; scope = s; ticket = f .ticket; marks = f .marks; selected = f .selected })
+phase-fits q p f s = fits (withPhase q p) (record { given = f .given; count = f .count; slots = f .slots; scope = s; ticket = f .ticket; marks = f .marks; selected = f .selected })
 
 moved-fits : (q : Queue) (e : Event) → wellFormed q ≡ true → wellFormed (withPhase q (next (q .phase) e)) ≡ true
 moved-fits q e h = phase-fits q (next (q .phase) e) (fit q h) (scope-moves (q .kind) (q .bound) (q .phase) e (fit q h .scope))
@@ -127,10 +126,9 @@ module _ (q : Queue) where
   issued-fits t next p d k a =
       let f : Fit q = fit q (p .sound) in
       fits (issuedTo q t next) (record {
+        given = f .given;
         count = f .count;
-        bound = f .bound;
         slots = rest-kept q (t .token) 0 f k;
-        bindings = f .bindings;
         scope = f .scope;
         ticket = ticket-fits (q .domain) (q .count) next t d k a;
         marks = ap (λ (b : Bool). marksFit true b true) (p .failed);
@@ -153,10 +151,9 @@ module _ (q : Queue) (t : Ticket) (o : Outside q t) where
 
   done-fits : (kept : ℕ) → wellFormed (withSelection (tookBack q (t .token) kept) Free) ≡ true
   done-fits kept = fits (withSelection (tookBack q (t .token) kept) Free) (record {
+    given = f .given;
     count = f .count;
-    bound = f .bound;
     slots = rest-kept q (t .token) kept f token-born;
-    bindings = f .bindings;
     scope = f .scope;
     ticket = refl;
     marks = ap (λ (b : Bool). marksFit false b false) (issued-not-failed q (o .sound) (o .issued));
@@ -165,10 +162,9 @@ module _ (q : Queue) (t : Ticket) (o : Outside q t) where
 
   failed-fits : (kept : ℕ) → wellFormed (withFailed (tookBack q (t .token) kept) true) ≡ true
   failed-fits kept = fits (withFailed (tookBack q (t .token) kept) true) (record {
+    given = f .given;
     count = f .count;
-    bound = f .bound;
     slots = rest-kept q (t .token) kept f token-born;
-    bindings = f .bindings;
     scope = f .scope;
     ticket = f .ticket;
     marks = ap (λ (s : Selection). marksFit (isSelected s) true false) (o .selected);
@@ -195,10 +191,9 @@ module _ (q : Queue) (h : wellFormed q ≡ true) (t : Ticket) (e : q .selection 
   again-fits =
       let f : Fit q = fit q h in
       fits (again q t .queue) (record {
+        given = f .given;
         count = f .count;
-        bound = f .bound;
         slots = f .slots;
-        bindings = f .bindings;
         scope = f .scope;
         ticket = ticket-fits (q .domain) (q .count) (q .next + 1) (renewed q t) (selected-domain q t h e) (selected-born q t h e) (omega arith);
         marks = ap (λ (b : Bool). marksFit true false b) not-out;

@@ -3,13 +3,14 @@ use Prim.Native.Nat.{ℕ, _*_}
 use mathlib.Core.Path.{_≡_, refl, sym, subst}
 use mathlib.Core.Bool.{Bool, true, false}
 use mathlib.Core.List.{List, [], _∷_, _++_}
-use lib.ListN.{take, drop, replicate}
+use lib.ListN.{take, drop}
 use Rattle.stage.specs.declared.phases.Phase.{Phase}
 use Rattle.stage.specs.declared.phases.Phase.the-variants.{Idle, Pending, Ended, Closed}
 use Rattle.queue_record.specs.Refusals.{done}
+use Rattle.queue_record.specs.Record.{withSlot, withCount, withSelection, withFailed, withIssued}
 use Rattle.queue_record.specs.WellFormed.{wellFormed}
 use Rattle.queue_record.specs.Newest.{newest}
-use Rattle.queue_record.specs.Openings.{iteratorOf, iteratorOpened}
+use Rattle.queue_record.specs.Openings.{opened, iteratorOf, iteratorOpened}
 use Rattle.queue_record.specs.declared.record.Kind.the-variants.{Iterator}
 use Rattle.queue_record.specs.declared.record.Ticket.{Ticket}
 use Rattle.queue_record.specs.declared.record.Selection.{Selection}
@@ -45,7 +46,7 @@ abbrev ticket : ℕ → ℕ → Ticket
 ticket token attempt = record { domain = 4; token = token; attempt = attempt }
 
 abbrev at : ℕ → ℕ → ℕ → ℕ → Selection → Bool → Bool → Phase → Queue
-at next count first second s failed issued phase = record { kind = Iterator; domain = 4; next = next; slots = first ∷ second ∷ replicate 62 0; count = count; selection = s; failed = failed; issued = issued; phase = phase; bindings = 3 ∷ replicate 15 0; bound = 1 }
+at next count first second s failed issued phase = withIssued (withFailed (withSelection (withCount (withSlot (withSlot (opened Iterator phase 4 next (3 ∷ [])) 0 first) 1 second) count) s) failed) issued
 
 -- behind its first rows the log holds the words that were lent
 abbrev behind : ℕ → Queue → Bench

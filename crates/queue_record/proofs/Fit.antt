@@ -14,12 +14,16 @@ use Rattle.queue_record.specs.declared.record.Selection.{Selection}
 use Rattle.queue_record.specs.declared.record.Selection.the-variants.{Free, Of}
 use Rattle.queue_record.specs.declared.record.Queue.{Queue}
 
+-- ---- the clauses on what an opening gives and no call changes: a law over a call passes them on whole
+pub record Given (n : ℕ) (places : List ℕ) : Type 0 where
+  pub bound : n ≤ 16
+  pub bindings : restZero n places ≡ true
+
 -- ---- the whole record
 pub record Fit (q : Queue) : Type 0 where
+  pub given : Given (q .bound) (q .bindings)
   pub count : q .count ≤ 64
-  pub bound : q .bound ≤ 16
   pub slots : restZero (q .count) (q .slots) ≡ true
-  pub bindings : restZero (q .bound) (q .bindings) ≡ true
   pub scope : scopeFits (q .kind) (q .bound) (q .phase) ≡ true
   pub ticket : ticketFits (q .domain) (q .count) (q .next) (q .selection) ≡ true
   pub marks : marksFit (isSelected (q .selection)) (q .failed) (q .issued) ≡ true
@@ -33,10 +37,9 @@ all-at (b ∷ bs) (suc i) h = all-at bs i (and-right b (allTrue bs) h)
 pub fit : (q : Queue) → wellFormed q ≡ true → Fit q
 unfolding wellFormed
 fit q h = record {
+  given = record { bound = leb-true _ _ (all-at (clauses q) 1 h); bindings = all-at (clauses q) 3 h };
   count = leb-true _ _ (all-at (clauses q) 0 h);
-  bound = leb-true _ _ (all-at (clauses q) 1 h);
   slots = all-at (clauses q) 2 h;
-  bindings = all-at (clauses q) 3 h;
   scope = all-at (clauses q) 4 h;
   ticket = all-at (clauses q) 5 h;
   marks = all-at (clauses q) 6 h;
@@ -45,7 +48,7 @@ fit q h = record {
 
 pub fits : (q : Queue) → Fit q → wellFormed q ≡ true
 unfolding wellFormed
-fits q f = pass _ (le-leb _ _ (f .count)) ∙ (pass _ (le-leb _ _ (f .bound)) ∙ (pass _ (f .slots) ∙ (pass _ (f .bindings) ∙ (pass _ (f .scope) ∙ (pass _ (f .ticket) ∙ (pass _ (f .marks) ∙ pass _ (f .selected)))))))
+fits q f = pass _ (le-leb _ _ (f .count)) ∙ (pass _ (le-leb _ _ (f .given .bound)) ∙ (pass _ (f .slots) ∙ (pass _ (f .given .bindings) ∙ (pass _ (f .scope) ∙ (pass _ (f .ticket) ∙ (pass _ (f .marks) ∙ pass _ (f .selected)))))))
 
 -- ---- the selected ticket
 module _ (domain count next : ℕ) (t : Ticket) where

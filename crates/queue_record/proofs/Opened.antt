@@ -35,10 +35,9 @@ module _ (domain first : ℕ) (bindings : List ℕ) where
   pub iterator-well-formed : length bindings ≤ 16 → wellFormed (iteratorOf domain first bindings) ≡ true
   unfolding iteratorOf
   iterator-well-formed l = fits (iteratorOf domain first bindings) (record {
+    given = record { bound = l; bindings = kept-rest bindings };
     count = omega arith;
-    bound = l;
     slots = refl;
-    bindings = kept-rest bindings;
     scope = refl;
     ticket = refl;
     marks = refl;

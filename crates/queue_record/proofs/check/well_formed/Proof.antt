@@ -1,11 +1,12 @@
 -- One return a clause, in the order of the definition
-use Prim.Native.Nat.{_<_}
+use Prim.Native.Nat.{ℕ, _<_}
 use mathlib.Core.Path.{_≡_, sym, ap, _∙_}
 use mathlib.Core.Bool.{Bool, true, _&&_, and-true}
 use mathlib.Core.List.{[], _∷_}
+use lib.ListN.{drop}
 use borrow.Author.Tests.{le-leb, lt-leb, not-true, not-false}
 use Rattle.stage.proofs.Ways.{pass, stop}
-use Rattle.queue_record.specs.WellFormed.{allTrue, ticketFits, marksFit, isSelected, selectedFits, wellFormed}
+use Rattle.queue_record.specs.WellFormed.{allTrue, ticketFits, marksFit, isSelected, selectedFits, clauses, wellFormed}
 use Rattle.queue_record.proofs.Marks.{free-failed, free-issued}
 use Rattle.queue_record.proofs.Fit.{ticket-below}
 use Rattle.queue_record.specs.declared.record.Queue.{Queue}
@@ -15,17 +16,56 @@ use native.Mathlib.Omega.{arith}
 use Rattle.queue_record.proofs.check.well_formed.Statement.{statement}
 use Rattle.queue_record.proofs.check.well_formed.Tie as tie
 
--- what is left once the first five clauses hold: those on the selection
+-- ---- the places behind the tests, each as seen from the next: one test more is one line more here
+abbrev start : tie.Else1 → Queue
+start c = c .before .before .args .q
+
+abbrev to1 : tie.Else2 → tie.Else1
+to1 c = c .before .before
+
+abbrev to2 : tie.Else3 → tie.Else2
+to2 c = c .before .before .before .before
+
+abbrev to3 : tie.Else4 → tie.Else3
+to3 c = c .before .before .before .before
+
+abbrev to4 : tie.Else5 → tie.Else4
+to4 c = c .before .before
+
+-- behind the last test before the selection: the first test's place, and the record that is asked
+abbrev first : tie.Else5 → tie.Else1
+first c = to1 (to2 (to3 (to4 c)))
+
+abbrev asked : tie.Else5 → Queue
+asked c = start (first c)
+
+-- ---- what is left of the definition behind each test: the clauses from the k-th on
+abbrev leftOf : ℕ → Queue → Bool
+leftOf k q = allTrue (drop k (clauses q))
+
+left1 : (c : tie.Else1) → wellFormed (start c) ≡ leftOf 1 (start c)
+unfolding wellFormed
+left1 c = pass _ (le-leb _ _ (c .if1 .left))
+
+left2 : (c : tie.Else2) → wellFormed (start (to1 c)) ≡ leftOf 2 (start (to1 c))
+left2 c = left1 (to1 c) ∙ pass _ (le-leb _ _ (c .if2 .left))
+
+left3 : (c : tie.Else3) → wellFormed (start (to1 (to2 c))) ≡ leftOf 3 (start (to1 (to2 c)))
+left3 c = left2 (to2 c) ∙ pass _ (sym (c .before .zeros-from .ensures) ∙ not-false _ (c .if3 .left))
+
+left4 : (c : tie.Else4) → wellFormed (start (to1 (to2 (to3 c)))) ≡ leftOf 4 (start (to1 (to2 (to3 c))))
+left4 c = left3 (to3 c) ∙ pass _ (sym (c .before .zeros-from2 .ensures) ∙ not-false _ (c .if4 .left))
+
+-- the clauses on the selection
 abbrev onSelection : Queue → Selection → Bool
 onSelection q s = allTrue (ticketFits (q .domain) (q .count) (q .next) s ∷ marksFit (isSelected s) (q .failed) (q .issued) ∷ selectedFits (q .failed) (q .issued) (q .slots) s ∷ [])
 
-five : (c : tie.Else5) → wellFormed (c .before .before .before .before .before .before .before .before .before .before .before .before .before .before .args .q) ≡ onSelection (c .before .before .before .before .before .before .before .before .before .before .before .before .before .before .args .q) ((c .before .before .before .before .before .before .before .before .before .before .before .before .before .before .args .q) .selection)
-unfolding wellFormed
-five c = pass _ (le-leb _ _ (c .before .before .before .before .before .before .before .before .before .before .before .before .if1 .left)) ∙ (pass _ (le-leb _ _ (c .before .before .before .before .before .before .before .before .before .before .if2 .left)) ∙ (pass _ (sym (c .before .before .before .before .before .before .before .zeros-from .ensures) ∙ not-false _ (c .before .before .before .before .before .before .if3 .left)) ∙ (pass _ (sym (c .before .before .before .zeros-from2 .ensures) ∙ not-false _ (c .before .before .if4 .left)) ∙ pass _ (sym (c .before .scope-fits .ensures) ∙ not-false _ (c .if5 .left)))))
+at-last : (c : tie.Else5) → wellFormed (asked c) ≡ onSelection (asked c) (asked c .selection)
+at-last c = left4 (to4 c) ∙ pass _ (sym (c .before .scope-fits .ensures) ∙ not-false _ (c .if5 .left))
 
 -- the token that the ticket names is one of the 64 places
 in-place : (c : tie.Else7) → (c .before .before .before .selection .given .0 .0) .token < 64
-in-place c = ticket-below ((c .before .before .before .before .before .before .before .before .before .before .before .before .before .before .before .before .before .before .before .args .q) .domain) ((c .before .before .before .before .before .before .before .before .before .before .before .before .before .before .before .before .before .before .before .args .q) .count) ((c .before .before .before .before .before .before .before .before .before .before .before .before .before .before .before .before .before .before .before .args .q) .next) (c .before .before .before .selection .given .0 .0) (c .before .before .before .before .before .before .before .before .before .before .before .before .before .before .before .before .before .if1 .left) (sym (c .before .ticket-fits .ensures) ∙ not-false _ (c .if7 .left))
+in-place c = ticket-below (asked (c .before .before .before .before .before) .domain) (asked (c .before .before .before .before .before) .count) (asked (c .before .before .before .before .before) .next) (c .before .before .before .selection .given .0 .0) (first (c .before .before .before .before .before) .if1 .left) (sym (c .before .ticket-fits .ensures) ∙ not-false _ (c .if7 .left))
 
 pub well-formed-spec : {M : Type 1} → statement M
 unfolding wellFormed
@@ -33,22 +73,22 @@ well-formed-spec =
     tie.close
     (tie.spec
     (λ c. sym (stop _ (lt-leb _ _ (c .if1 .taken))))
-    (λ c. sym (pass _ (le-leb _ _ (c .before .before .if1 .left)) ∙ stop _ (lt-leb _ _ (c .if2 .taken))))
+    (λ c. sym (left1 (c .before .before) ∙ stop _ (lt-leb _ _ (c .if2 .taken))))
     (λ c. search needs)
     (λ c κs. search needs)
-    (λ c. sym (pass _ (le-leb _ _ (c .before .before .before .before .before .before .if1 .left)) ∙ (pass _ (le-leb _ _ (c .before .before .before .before .if2 .left)) ∙ stop _ (sym (c .before .zeros-from .ensures) ∙ not-true _ (c .if3 .taken)))))
+    (λ c. sym (left2 (c .before .before .before .before) ∙ stop _ (sym (c .before .zeros-from .ensures) ∙ not-true _ (c .if3 .taken))))
     (λ c. search needs)
     (λ c κs. search needs)
-    (λ c. sym (pass _ (le-leb _ _ (c .before .before .before .before .before .before .before .before .before .before .if1 .left)) ∙ (pass _ (le-leb _ _ (c .before .before .before .before .before .before .before .before .if2 .left)) ∙ (pass _ (sym (c .before .before .before .before .before .zeros-from .ensures) ∙ not-false _ (c .before .before .before .before .if3 .left)) ∙ stop _ (sym (c .before .zeros-from2 .ensures) ∙ not-true _ (c .if4 .taken))))))
+    (λ c. sym (left3 (c .before .before .before .before) ∙ stop _ (sym (c .before .zeros-from2 .ensures) ∙ not-true _ (c .if4 .taken))))
     (λ c κs. search needs)
-    (λ c. sym (pass _ (le-leb _ _ (c .before .before .before .before .before .before .before .before .before .before .before .before .if1 .left)) ∙ (pass _ (le-leb _ _ (c .before .before .before .before .before .before .before .before .before .before .if2 .left)) ∙ (pass _ (sym (c .before .before .before .before .before .before .before .zeros-from .ensures) ∙ not-false _ (c .before .before .before .before .before .before .if3 .left)) ∙ (pass _ (sym (c .before .before .before .zeros-from2 .ensures) ∙ not-false _ (c .before .before .if4 .left)) ∙ stop _ (sym (c .before .scope-fits .ensures) ∙ not-true _ (c .if5 .taken)))))))
+    (λ c. sym (left4 (c .before .before) ∙ stop _ (sym (c .before .scope-fits .ensures) ∙ not-true _ (c .if5 .taken))))
     (λ c. search needs)
     (λ c. search needs)
-    (λ c. sym (five (c .before .before .before) ∙ (ap (onSelection (c .before .before .before .before .before .before .before .before .before .before .before .before .before .before .before .before .before .args .q)) (c .before .enum-told .given .1) ∙ stop _ (free-failed _ _ (c .if6 .taken)))))
-    (λ c. sym (five (c .before .before .before .before) ∙ (ap (onSelection (c .before .before .before .before .before .before .before .before .before .before .before .before .before .before .before .before .before .before .args .q)) (c .before .before .enum-told .given .1) ∙ (and-true _ ∙ free-issued _ _ (c .before .if6 .left)))))
+    (λ c. sym (at-last (c .before .before .before) ∙ (ap (onSelection (asked (c .before .before .before))) (c .before .enum-told .given .1) ∙ stop _ (free-failed _ _ (c .if6 .taken)))))
+    (λ c. sym (at-last (c .before .before .before .before) ∙ (ap (onSelection (asked (c .before .before .before .before))) (c .before .before .enum-told .given .1) ∙ (and-true _ ∙ free-issued _ _ (c .before .if6 .left)))))
     (λ c κs. search needs)
-    (λ c. sym (five (c .before .before .before .before .before) ∙ (ap (onSelection (c .before .before .before .before .before .before .before .before .before .before .before .before .before .before .before .before .before .before .before .args .q)) (c .before .before .before .selection .given .1) ∙ stop _ (sym (c .before .ticket-fits .ensures) ∙ not-true _ (c .if7 .taken)))))
+    (λ c. sym (at-last (c .before .before .before .before .before) ∙ (ap (onSelection (asked (c .before .before .before .before .before))) (c .before .before .before .selection .given .1) ∙ stop _ (sym (c .before .ticket-fits .ensures) ∙ not-true _ (c .if7 .taken)))))
     (λ c. omega (arith, in-place c))
     (λ c. in-place c)
     (λ c κs. search needs)
-    (λ c. (c .slot-fits .ensures) ∙ sym (five (c .before .before .before .before .before .before) ∙ (ap (onSelection (c .before .before .before .before .before .before .before .before .before .before .before .before .before .before .before .before .before .before .before .before .args .q)) (c .before .before .before .before .selection .given .1) ∙ (pass _ (sym (c .before .before .ticket-fits .ensures) ∙ not-false _ (c .before .if7 .left)) ∙ ap (λ (b : Bool). marksFit true ((c .before .before .before .before .before .before .before .before .before .before .before .before .before .before .before .before .before .before .before .before .args .q .failed)) ((c .before .before .before .before .before .before .before .before .before .before .before .before .before .before .before .before .before .before .before .before .args .q .issued)) && b) (and-true _))))))
+    (λ c. (c .slot-fits .ensures) ∙ sym (at-last (c .before .before .before .before .before .before) ∙ (ap (onSelection (asked (c .before .before .before .before .before .before))) (c .before .before .before .before .selection .given .1) ∙ (pass _ (sym (c .before .before .ticket-fits .ensures) ∙ not-false _ (c .before .if7 .left)) ∙ ap (λ (b : Bool). marksFit true (asked (c .before .before .before .before .before .before) .failed) (asked (c .before .before .before .before .before .before) .issued) && b) (and-true _))))))
