@@ -1,5 +1,5 @@
 -- A call on sound words is the call on their record; on others it is refused with 1, and the words stay
-use Prim.Native.Nat.{ℕ, _≤_}
+use Prim.Native.Nat.{ℕ, _<_, _≤_}
 use mathlib.Core.Path.{_≡_, refl, sym, ap, _∙_}
 use mathlib.Core.Bool.{Bool, true, false, not, _&&_}
 use mathlib.Core.List.{List}
@@ -7,8 +7,10 @@ use lib.ListN.{length}
 use Rattle.stage.proofs.Ways.{hit, miss, pass, and-left, and-right}
 use Rattle.queue_record.specs.Refusals.{broken}
 use Rattle.queue_record.specs.WellFormed.{restZero, wellFormed}
-use Rattle.queue_record.proofs.Fit.{fit}
-use Rattle.queue_words.specs.Words.{word, slotsIn, queueOf, wordsOf, encodes, isSound}
+use Rattle.queue_record.specs.declared.record.Ticket.{Ticket}
+use Rattle.queue_record.specs.declared.record.Selection.the-variants.{Of}
+use Rattle.queue_record.proofs.Fit.{fit, selected-below}
+use Rattle.queue_words.specs.Words.{word, slotsIn, selectionIn, queueOf, wordsOf, encodes, isSound}
 use Rattle.queue_words.specs.Exported.{Exported, refusedOn, onRecord}
 use Rattle.queue_words.proofs.RoundTrip.{encoded, words-again, queue-sized}
 use Rattle.queue_words.proofs.Setters.{Held}
@@ -60,3 +62,8 @@ module _ (ws : List ℕ) where
     pub few-bindings : word ws 91 ≤ 16
     unfolding queueOf
     few-bindings = fit (queueOf ws) sound-fits .bound
+
+    -- the selected ticket names one of the 64 slots
+    pub own-place : (t : Ticket) → selectionIn ws ≡ Of t → t .token < 64
+    unfolding queueOf
+    own-place t e = selected-below (queueOf ws) t sound-fits e

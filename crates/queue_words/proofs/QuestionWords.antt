@@ -25,8 +25,7 @@ use Rattle.queue_words.specs.Words.{word, markAt, slotsIn, selectionIn, 
 use Rattle.queue_words.specs.Exported.{exported, answerOf, refusedOn, toldSaid, toldOn, domainSaid, domainOn}
 use Rattle.queue_words.specs.InPlace.{yesWord, saidIn}
 use Rattle.queue_words.proofs.CheckParts.{free-in, own-in, slot-word, ticketIn}
-use Rattle.queue_words.proofs.OnWords.{unsound-by, sound-on, not-broken}
-use Rattle.queue_words.proofs.AttemptWords.{own-place}
+use Rattle.queue_words.proofs.OnWords.{unsound-by, sound-on, not-broken, own-place}
 
 -- yes or no is its word
 pub told-word : (ws : List ℕ) (b : Bool) → toldSaid (yesOrNo b) ws ≡ saidIn ws b

@@ -17,7 +17,6 @@ pub use questions::nothing_left;
 pub use questions::retry_allowed;
 pub use search::newest_waiting;
 pub use search::target_matches;
-pub use steps::hand_out;
 pub use steps::move_stage;
 pub use steps::put_iterator;
 pub use steps::put_run;
