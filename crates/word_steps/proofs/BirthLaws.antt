@@ -48,7 +48,7 @@ module _ (q : Queue) (number : ℕ) where
   unfolding landRefusal
   land-room = if-by Room (eqb number 0) _ _ (λ _ z. absurd (omega arith)) (λ _. if-by Room (not (isPending (q .phase))) _ _ (λ _ z. absurd (omega arith)) (λ _. if-by Room (leb 64 (q .count)) _ _ (λ _ z. absurd (omega arith)) (λ l _. leb-false _ _ l)))
 
-module _ (ws : List ℕ) (s : isSound ws ≡ true) (number n : ℕ) where
+module _ (ws : List ℕ) (s : isSound ws ≡ true) (number : ℕ) where
   -- ---- the stores
   module _ (room : word ws 67 < 64) where
     pub grown-held : Held (grown (queueOf ws) number) (grownIn ws number)
@@ -59,46 +59,47 @@ module _ (ws : List ℕ) (s : isSound ws ≡ true) (number n : ℕ) where
     unfolding queueOf
     landed-held = hold-phase grown-held (next (phaseAt (word ws 74)) Land)
 
-  -- ---- the calls, for both at once
-  module _ (r : RegisterAnswer) (after : Queue) (e : r ≡ bornBy (queueOf ws) number after n) where
-    birth-no : (n ≡ 0 → ⊥) → onRecord ws number (bornExported r) ≡ refusedOn n number ws
-    birth-no z = sound-on ws s number _ ∙ (ap bornExported (e ∙ miss _ (ne-eqb _ _ z)) ∙ ap (refusedOn n number) (same-words ws s))
+  -- ---- the calls, by the number n that refuses them
+  module _ (n : ℕ) where
+    module _ (r : RegisterAnswer) (after : Queue) (e : r ≡ bornBy (queueOf ws) number after n) where
+      birth-no : (n ≡ 0 → ⊥) → onRecord ws number (bornExported r) ≡ refusedOn n number ws
+      birth-no z = sound-on ws s number _ ∙ (ap bornExported (e ∙ miss _ (ne-eqb _ _ z)) ∙ ap (refusedOn n number) (same-words ws s))
 
-    birth-yes : n ≡ 0 → {vs : List ℕ} → Held after vs → onRecord ws number (bornExported r) ≡ exported done (answerOf 1 (word ws 67)) vs
-    unfolding queueOf
-    birth-yes z h = sound-on ws s number _ ∙ (ap bornExported (e ∙ hit _ (eq-eqb _ _ z)) ∙ ap (exported done (answerOf 1 (word ws 67))) (h .words))
+      birth-yes : n ≡ 0 → {vs : List ℕ} → Held after vs → onRecord ws number (bornExported r) ≡ exported done (answerOf 1 (word ws 67)) vs
+      unfolding queueOf
+      birth-yes z h = sound-on ws s number _ ∙ (ap bornExported (e ∙ hit _ (eq-eqb _ _ z)) ∙ ap (exported done (answerOf 1 (word ws 67))) (h .words))
 
-  module _ (e : n ≡ registerRefusal (queueOf ws) number) where
-    register-by : registered (queueOf ws) number ≡ bornBy (queueOf ws) number (grown (queueOf ws) number) n
-    register-by = register-parts (queueOf ws) number (sound-fits ws s) ∙ ap (bornBy (queueOf ws) number (grown (queueOf ws) number)) (sym e)
+    module _ (e : n ≡ registerRefusal (queueOf ws) number) where
+      pub register-by : registered (queueOf ws) number ≡ bornBy (queueOf ws) number (grown (queueOf ws) number) n
+      register-by = register-parts (queueOf ws) number (sound-fits ws s) ∙ ap (bornBy (queueOf ws) number (grown (queueOf ws) number)) (sym e)
 
-    pub register-place : n ≡ 0 → word ws 67 < 64
-    unfolding queueOf
-    register-place z = register-room (queueOf ws) number (sym e ∙ z)
+      pub register-place : n ≡ 0 → word ws 67 < 64
+      unfolding queueOf
+      register-place z = register-room (queueOf ws) number (sym e ∙ z)
 
-    pub register-no : (n ≡ 0 → ⊥) → registerOn ws number ≡ refusedOn n number ws
-    unfolding registerOn
-    register-no = birth-no _ _ register-by
+      pub register-no : (n ≡ 0 → ⊥) → registerOn ws number ≡ refusedOn n number ws
+      unfolding registerOn
+      register-no = birth-no _ _ register-by
 
-    pub register-yes : n ≡ 0 → registerOn ws number ≡ exported done (answerOf 1 (word ws 67)) (grownIn ws number)
-    unfolding registerOn
-    register-yes z = birth-yes _ _ register-by z (grown-held (register-place z))
+      pub register-yes : n ≡ 0 → registerOn ws number ≡ exported done (answerOf 1 (word ws 67)) (grownIn ws number)
+      unfolding registerOn
+      register-yes z = birth-yes _ _ register-by z (grown-held (register-place z))
 
-  module _ (e : n ≡ landRefusal (queueOf ws) number) where
-    land-by : landed (queueOf ws) number ≡ bornBy (queueOf ws) number (landedTo (queueOf ws) number) n
-    land-by = land-parts (queueOf ws) number (sound-fits ws s) ∙ ap (bornBy (queueOf ws) number (landedTo (queueOf ws) number)) (sym e)
+    module _ (e : n ≡ landRefusal (queueOf ws) number) where
+      pub land-by : landed (queueOf ws) number ≡ bornBy (queueOf ws) number (landedTo (queueOf ws) number) n
+      land-by = land-parts (queueOf ws) number (sound-fits ws s) ∙ ap (bornBy (queueOf ws) number (landedTo (queueOf ws) number)) (sym e)
 
-    pub land-place : n ≡ 0 → word ws 67 < 64
-    unfolding queueOf
-    land-place z = land-room (queueOf ws) number (sym e ∙ z)
+      pub land-place : n ≡ 0 → word ws 67 < 64
+      unfolding queueOf
+      land-place z = land-room (queueOf ws) number (sym e ∙ z)
 
-    pub land-no : (n ≡ 0 → ⊥) → landOn ws number ≡ refusedOn n number ws
-    unfolding landOn
-    land-no = birth-no _ _ land-by
+      pub land-no : (n ≡ 0 → ⊥) → landOn ws number ≡ refusedOn n number ws
+      unfolding landOn
+      land-no = birth-no _ _ land-by
 
-    pub land-yes : n ≡ 0 → landOn ws number ≡ exported done (answerOf 1 (word ws 67)) (landedIn ws number)
-    unfolding landOn
-    land-yes z = birth-yes _ _ land-by z (landed-held (land-place z))
+      pub land-yes : n ≡ 0 → landOn ws number ≡ exported done (answerOf 1 (word ws 67)) (landedIn ws number)
+      unfolding landOn
+      land-yes z = birth-yes _ _ land-by z (landed-held (land-place z))
 
 -- words that are not sound are refused with 1
 module _ (ws : List ℕ) (number : ℕ) (u : isSound ws ≡ false) where

@@ -49,7 +49,7 @@ module _ (ws : List ℕ) (s : isSound ws ≡ true) (t : Ticket) (outcome kept n 
       by true h = rw h (hold-selection took Free)
       by false h = rw h (hold-failed took true)
 
-  complete-by : completed (queueOf ws) t outcome kept ≡ completedBy (queueOf ws) t outcome kept n
+  pub complete-by : completed (queueOf ws) t outcome kept ≡ completedBy (queueOf ws) t outcome kept n
   complete-by = complete-parts (queueOf ws) (sound-fits ws s) t outcome kept ∙ ap (completedBy (queueOf ws) t outcome kept) (sym e)
 
   module _ (ticket : List ℕ) (g : t ≡ ticketOf (word ticket 0) (word ticket 1) (word ticket 2)) where

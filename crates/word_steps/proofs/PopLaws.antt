@@ -70,9 +70,12 @@ module _ (ws : List ℕ) (s : isSound ws ≡ true) where
   issued-held t next h = hold-issued (hold-next (hold-slot (hold-selection (held ws s) (Of t)) (t .token) 0 h) next) true
 
   module _ (d : Due) (e : d ≡ popDue (queueOf ws)) where
+    pub pop-by : popped (queueOf ws) ≡ poppedAs (queueOf ws) d
+    pop-by = pop-parts (queueOf ws) (sound-fits ws s) ∙ ap (poppedAs (queueOf ws)) (sym e)
+
     pop-on : popOn ws ≡ popExported (poppedAs (queueOf ws) d)
     unfolding popOn
-    pop-on = sound-on ws s 0 _ ∙ ap popExported (pop-parts (queueOf ws) (sound-fits ws s) ∙ ap (poppedAs (queueOf ws)) (sym e))
+    pop-on = sound-on ws s 0 _ ∙ ap popExported pop-by
 
     pub pop-none : d ≡ Due.Nothing → popOn ws ≡ exported done (answerOf 1 0) ws
     pop-none h = pop-on ∙ (ap (λ (x : Due). popExported (poppedAs (queueOf ws) x)) h ∙ ap (exported done (answerOf 1 0)) (same-words ws s))

@@ -64,9 +64,13 @@ module _ (ws : List ℕ) (s : isSound ws ≡ true) where
   renewed-held t = hold-failed (hold-next (hold-selection (held ws s) (Of t)) (t .attempt + 1)) false
 
   module _ (d : Selection) (e : d ≡ renewalOf (queueOf ws) (selectionIn ws)) where
+    pub retry-by : retried (queueOf ws) ≡ retriedAs (queueOf ws) d
+    unfolding queueOf
+    retry-by = retry-parts (queueOf ws) (sound-fits ws s) ∙ ap (retriedAs (queueOf ws)) (sym e)
+
     retry-on : retryOn ws ≡ retryExported (retriedAs (queueOf ws) d)
-    unfolding retryOn queueOf
-    retry-on = sound-on ws s 0 _ ∙ ap retryExported (retry-parts (queueOf ws) (sound-fits ws s) ∙ ap (retriedAs (queueOf ws)) (sym e))
+    unfolding retryOn
+    retry-on = sound-on ws s 0 _ ∙ ap retryExported retry-by
 
     pub retry-no : d ≡ Free → retryOn ws ≡ refusedOn noRetry 0 ws
     retry-no h = retry-on ∙ (ap (λ (x : Selection). retryExported (retriedAs (queueOf ws) x)) h ∙ ap (refusedOn noRetry 0) (same-words ws s))
