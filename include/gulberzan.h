@@ -101,6 +101,11 @@ enum gulberzan_row {
     GULBERZAN_ROW_CANCEL = 7
 };
 
+/* Every call that takes an answer writes all of it: case 0 with a refusal, and 0 where a case has fewer values. All of them but
+   the reader refuse words that are no well-formed record with 1, first. A refusal leaves queue, log and *used as
+   they were, but for an opening (14) and the reader. No pointer is null, also with a count of 0; all are aligned, and no two of a
+   call overlap. A count of 0 is an empty list: as a target it has no members, which is not the same as no target. */
+
 /* Opens a scope in queue, whatever stood there; its result is always 0. */
 uint64_t gulberzan_open_scope(uint64_t queue[GULBERZAN_QUEUE_WORDS], uint64_t domain, uint64_t first_attempt);
 
@@ -119,7 +124,8 @@ uint64_t gulberzan_register(uint64_t queue[GULBERZAN_QUEUE_WORDS], uint64_t numb
 uint64_t gulberzan_land(uint64_t queue[GULBERZAN_QUEUE_WORDS], uint64_t number,
                         uint64_t answer[GULBERZAN_ANSWER_WORDS]);
 
-/* Hands out the newest undo number; case 1: Nothing; case 2: domain, token, attempt, undo number. Refused 1, 5. */
+/* Hands out the ready ticket, which retry renewed, or else a fresh one for the newest waiting undo number; case 1: Nothing;
+   case 2: domain, token, attempt, undo number. Refused 1, 5; 9 is never given. */
 uint64_t gulberzan_pop(uint64_t queue[GULBERZAN_QUEUE_WORDS], uint64_t answer[GULBERZAN_ANSWER_WORDS]);
 
 /* Settles what is out; ticket is domain, token, attempt; case 1. Refused 1, 15, 6, 7: the kept number comes back. */
@@ -129,18 +135,20 @@ uint64_t gulberzan_complete(uint64_t queue[GULBERZAN_QUEUE_WORDS], const uint64_
 /* Renews a failed ticket; case 1: domain, token, new attempt. Refused 1, 8. */
 uint64_t gulberzan_retry(uint64_t queue[GULBERZAN_QUEUE_WORDS], uint64_t answer[GULBERZAN_ANSWER_WORDS]);
 
-/* Moves an idle stage if the target's members are the bindings' members; yes if it is pending afterwards. */
+/* Moves an idle stage if the target's members are the bindings' members; yes if it is pending afterwards. Refused 1. */
 uint64_t gulberzan_admit(uint64_t queue[GULBERZAN_QUEUE_WORDS], const uint64_t *target, size_t count,
                          uint64_t answer[GULBERZAN_ANSWER_WORDS]);
 
-/* Admit with no target, which moves nothing; yes if the stage is pending. */
+/* Admit with no target, which moves nothing; yes if the stage is pending. Refused 1. */
 uint64_t gulberzan_admit_without(uint64_t queue[GULBERZAN_QUEUE_WORDS], uint64_t answer[GULBERZAN_ANSWER_WORDS]);
 
-/* Ends a pending stage; yes if it was pending before. */
+/* Ends a pending stage; yes if it was pending before. Refused 1. */
 uint64_t gulberzan_end(uint64_t queue[GULBERZAN_QUEUE_WORDS], uint64_t answer[GULBERZAN_ANSWER_WORDS]);
 
-/* Cancels the stage; case 1. */
+/* Cancels the stage; case 1. Refused 1. */
 uint64_t gulberzan_cancel(uint64_t queue[GULBERZAN_QUEUE_WORDS], uint64_t answer[GULBERZAN_ANSWER_WORDS]);
+
+/* The questions change nothing; case 1: no; case 2: yes. Refused 1. */
 
 /* Yes if nothing waits and nothing is selected. */
 uint64_t gulberzan_is_empty(const uint64_t queue[GULBERZAN_QUEUE_WORDS], uint64_t answer[GULBERZAN_ANSWER_WORDS]);
@@ -167,11 +175,11 @@ uint64_t gulberzan_can_retry(const uint64_t queue[GULBERZAN_QUEUE_WORDS], uint64
 uint64_t gulberzan_can_finish(const uint64_t queue[GULBERZAN_QUEUE_WORDS], const uint64_t *target, size_t count,
                               uint64_t answer[GULBERZAN_ANSWER_WORDS]);
 
-/* Case 1: the queue's domain. */
+/* Case 1: the queue's domain. Refused 1. */
 uint64_t gulberzan_domain(const uint64_t queue[GULBERZAN_QUEUE_WORDS], uint64_t answer[GULBERZAN_ANSWER_WORDS]);
 
-/* The recorded calls answer as those above. One that changes the queue writes a row behind the *used rows of log, which has
-   words words, and raises *used by 1; without room it is refused with 17, last. Used rows that don't fit get 1, first. */
+/* The recorded calls answer as those above. One that changes the queue writes a row behind the *used rows of log, which is
+   `words` words long, and raises *used by 1; without room it is refused with 17, last. Used rows that don't fit get 1, first. */
 
 /* Register, recorded. */
 uint64_t gulberzan_register_recorded(uint64_t queue[GULBERZAN_QUEUE_WORDS], uint64_t number, uint64_t *log,

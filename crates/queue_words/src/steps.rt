@@ -1,10 +1,10 @@
-// The stores that calls share: a ticket selected, the stage moved, the openings.
+// The stores that calls share: the selection, the stage, the openings.
 use queue_record::Ticket;
 use stage::Phase;
 ghost use mathlib.Core.Path.{_≡_};
 ghost use Prim.Native.Nat.{_+_, _≤_};
 ghost use lib.ListN.{length};
-ghost use Rattle.queue_record.specs.declared.record.Selection.the-variants.{Of};
+ghost use Rattle.queue_record.specs.declared.record.Selection.the-variants.{Free, Of};
 ghost use Rattle.queue_words.specs.Exported.{exported};
 ghost use Rattle.queue_words.specs.InPlace.{setSelection, yesWord, movedIn, scopeIn, iteratorIn, runPut};
 
@@ -15,6 +15,16 @@ pub fn select(queue: &mut [u64; 92], ticket: Ticket)
     queue[69] = ticket.domain;
     queue[70] = ticket.token;
     queue[71] = ticket.attempt;
+}
+
+// Four times 0: nothing is selected.
+pub fn deselect(queue: &mut [u64; 92])
+    ensures { λ _. ⌜ now (queue .exit) ≡ setSelection (now (queue .entry)) Free ⌝ }
+{
+    queue[68] = 0;
+    queue[69] = 0;
+    queue[70] = 0;
+    queue[71] = 0;
 }
 
 pub fn yes_word(told: bool) -> u64

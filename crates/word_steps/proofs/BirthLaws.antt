@@ -15,7 +15,7 @@ use Rattle.queue_record.specs.WellFormed.{wellFormed}
 use Rattle.queue_record.specs.declared.record.Queue.{Queue}
 use Rattle.queue_steps.specs.Births.{grown, registered, landed}
 use Rattle.queue_steps.specs.declared.births.RegisterAnswer.{RegisterAnswer}
-use Rattle.queue_words.specs.Words.{word, queueOf, wordsOf, isSound}
+use Rattle.queue_words.specs.Words.{word, queueOf, isSound}
 use Rattle.queue_words.specs.Exported.{exported, answerOf, refusedOn, onRecord, bornExported, registerOn, landOn}
 use Rattle.queue_words.proofs.Setters.{Held, hold-slot, hold-count, hold-phase}
 use Rattle.queue_words.proofs.OnWords.{unsound-on, sound-on, sound-fits, same-words, held}

@@ -1,12 +1,11 @@
 // Complete: the number that refuses an answer, and the stores that take it in.
-use queue_record::Selection;
 use queue_record::Ticket;
 use queue_record::refusal::BAD_OUTCOME;
 use queue_record::refusal::KEPT_ON_DONE;
 use queue_record::refusal::NOT_OUT;
 use queue_steps::is_out;
 use queue_steps::keeps_on_done;
-use queue_words::put_selection;
+use queue_words::deselect;
 use queue_words::selection_at;
 use queue_words::ticket_at;
 ghost use mathlib.Core.Path.{_≡_};
@@ -42,7 +41,7 @@ pub fn settle(queue: &mut [u64; 92], token: u64, outcome: u64, kept: u64)
     queue[at] = kept;
     queue[73] = 0;
     if outcome == 0 {
-        put_selection(queue, Selection::Free);
+        deselect(queue);
         return;
     }
     queue[72] = 1;

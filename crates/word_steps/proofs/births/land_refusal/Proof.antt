@@ -1,6 +1,5 @@
 -- Test by test
 use mathlib.Core.Path.{sym, ap, _∙_}
-use mathlib.Core.Bool.{not}
 use borrow.Author.Tests.{eq-eqb, ne-eqb, le-leb, lt-leb}
 use Rattle.stage.proofs.Ways.{hit, miss, negated}
 use Rattle.stage.specs.Phases.{isPending}

@@ -1,7 +1,5 @@
 -- Refused, or born
 use mathlib.Core.Path.{sym, ap, _∙_}
-use mathlib.Core.List.{List}
-use Prim.Native.Nat.{ℕ}
 use Rattle.queue_record.specs.Refusals.{done}
 use Rattle.queue_words.specs.Words.{word}
 use Rattle.queue_words.specs.Exported.{exported, answerOf}

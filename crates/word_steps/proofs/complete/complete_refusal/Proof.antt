@@ -1,6 +1,5 @@
 -- Test by test
 use mathlib.Core.Path.{sym, ap, _∙_}
-use mathlib.Core.Bool.{Bool}
 use borrow.Author.Tests.{lt-ltb, le-ltb}
 use Rattle.stage.proofs.Ways.{hit, miss, negated}
 use Rattle.queue_record.specs.declared.record.Selection.{Selection}

@@ -15,6 +15,6 @@ settle-spec =
     (λ c. search needs)
     (λ c. search needs)
     (λ c κs. search needs)
-    (λ c. (c .put-selection .ensures) ∙ sym (hit _ (eq-eqb _ _ (c .before .before .if1 .taken))))
+    (λ c. (c .deselect .ensures) ∙ sym (hit _ (eq-eqb _ _ (c .before .before .if1 .taken))))
     (λ c. search needs)
     (λ c. sym (miss _ (ne-eqb _ _ (c .if1 .left)))))

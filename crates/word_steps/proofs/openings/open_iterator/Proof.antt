@@ -11,7 +11,7 @@ use Rattle.queue_record.specs.declared.openings.OpenAnswer.{OpenAnswer}
 use Rattle.queue_words.specs.Words.{wordsOf}
 use Rattle.queue_words.specs.Exported.{openNumber}
 use Rattle.queue_words.specs.InPlace.{runPut}
-use Rattle.queue_words.proofs.OpenWords.{scope-words, iterator-words, base-length}
+use Rattle.queue_words.proofs.OpenWords.{scope-words, iterator-words}
 use borrow.Author.Needs.{needs}
 use Rattle.word_steps.proofs.openings.open_iterator.Statement.{statement}
 use Rattle.word_steps.proofs.openings.open_iterator.Tie as tie

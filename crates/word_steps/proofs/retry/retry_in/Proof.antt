@@ -1,9 +1,5 @@
 -- No retry, or again
-use mathlib.Core.Path.{sym, ap, _∙_}
-use mathlib.Core.List.{[], _∷_}
-use Rattle.queue_record.specs.Refusals.{done}
-use Rattle.queue_record.specs.declared.record.Ticket.{Ticket}
-use Rattle.queue_words.specs.Exported.{exported}
+use mathlib.Core.Path.{sym}
 use Rattle.word_steps.proofs.RetryLaws.{renewed-low, retry-no, retry-yes}
 use borrow.Author.Needs.{needs}
 use Rattle.word_steps.proofs.retry.retry_in.Statement.{statement}

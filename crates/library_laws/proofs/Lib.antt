@@ -1,0 +1,3 @@
+pub mod Sounds
+pub mod OneAnswer
+pub mod Says

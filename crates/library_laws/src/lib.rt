@@ -1,0 +1,1 @@
+// No code: laws over the calls of the library for C.
