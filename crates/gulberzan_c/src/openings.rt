@@ -1,8 +1,6 @@
 // The openings: a scope, and an iterator with its committed bindings. All 92 words are written.
-use queue_record::refusal::TOO_MANY_BINDINGS;
-use queue_words::put_iterator;
-use queue_words::put_run;
 use queue_words::put_scope;
+use word_steps::open_iterator;
 ghost use mathlib.Core.Path.{_≡_};
 ghost use Rattle.queue_record.specs.Refusals.{done};
 ghost use Rattle.queue_record.specs.Openings.{scopeOf, iteratorOpened};
@@ -26,12 +24,5 @@ pub extern "C" fn gulberzan_open_iterator(
 ) -> u64
     ensures { λ r. ⌜ (r ≡ openNumber (iteratorOpened domain first (now (bindings .entry)) .answer)) × (now (queue .exit) ≡ wordsOf (iteratorOpened domain first (now (bindings .entry)) .queue)) ⌝ }
 {
-    let bound = bindings.len();
-    if 16 < bound {
-        put_scope(queue, 0, 0);
-        return TOO_MANY_BINDINGS;
-    }
-    put_iterator(queue, domain, first, bound as u64);
-    put_run(queue, 75, bindings);
-    0
+    open_iterator(queue, domain, first, bindings)
 }

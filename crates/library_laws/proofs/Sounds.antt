@@ -3,11 +3,7 @@ use Prim.Native.Nat.{ℕ}
 use mathlib.Core.Path.{_≡_, refl, ap, _∙_}
 use mathlib.Core.Bool.{true, false}
 use mathlib.Core.List.{List, [], _∷_}
-use Rattle.stage.proofs.Ways.{pass}
-use Rattle.queue_record.specs.Record.{Sized}
-use Rattle.queue_record.specs.WellFormed.{wellFormed}
 use Rattle.queue_record.specs.Openings.{scopeOf, iteratorOpened}
-use Rattle.queue_record.specs.declared.record.Queue.{Queue}
 use Rattle.queue_record.proofs.Opened.{scope-well-formed, scope-sized, opening-well-formed, opening-sized}
 use Rattle.queue_steps.specs.Births.{registered, landed}
 use Rattle.queue_steps.specs.Attempts.{popped, completed, retried}
@@ -23,14 +19,9 @@ use Rattle.cleanup_queue.specs.Runs.{Call, after}
 use Rattle.cleanup_queue.proofs.Sizes.{call-sized, call-keeps}
 use Rattle.queue_words.specs.Words.{word, ticketOf, queueOf, wordsOf, isSound}
 use Rattle.queue_words.specs.Exported.{Exported, bornSaid, popSaid, completeSaid, retrySaid, toldSaid, cancelSaid, registerOn, landOn, popOn, completeOn, retryOn, admitOn, admitWithoutOn, endOn, cancelOn}
-use Rattle.queue_words.proofs.RoundTrip.{queue-again, words-encode, queue-sized}
-use Rattle.queue_words.proofs.OnWords.{sound-fits, sound-on, sound-length}
+use Rattle.queue_words.proofs.RoundTrip.{queue-sized}
+use Rattle.queue_words.proofs.OnWords.{record-sound, sound-fits, sound-on, sound-length}
 use Rattle.library_laws.specs.CallWords.{WordCall, register, land, pop, complete, retry, admit, admitWithout, end, cancel, wordsAfter, wordsAfterAll}
-
--- the words of a well-formed record are sound
-pub record-sound : (q : Queue) → Sized q → wellFormed q ≡ true → isSound (wordsOf q) ≡ true
-unfolding isSound
-record-sound q s w = pass _ (words-encode q s) ∙ (ap wellFormed (queue-again q s) ∙ w)
 
 -- ---- whatever an answer is, the words are those that it was given
 born-words : (a : Registered) (ws : List ℕ) → bornSaid a ws .words ≡ ws

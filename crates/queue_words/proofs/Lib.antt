@@ -5,8 +5,6 @@ pub mod Setters
 pub mod CheckParts
 pub mod Down
 pub mod OnWords
-pub mod BirthWords
-pub mod AttemptWords
 pub mod OpenWords
 pub mod QuestionWords
 pub mod StageWords

@@ -1,17 +1,26 @@
 -- A call on sound words is the call on their record; on others it is refused with 1, and the words stay
-use Prim.Native.Nat.{ℕ, _≤_}
+use Prim.Native.Nat.{ℕ, _<_, _≤_}
 use mathlib.Core.Path.{_≡_, refl, sym, ap, _∙_}
-use mathlib.Core.Bool.{Bool, true, false, not, _&&_}
+use mathlib.Core.Bool.{Bool, true, false, not}
 use mathlib.Core.List.{List}
 use lib.ListN.{length}
 use Rattle.stage.proofs.Ways.{hit, miss, pass, and-left, and-right}
 use Rattle.queue_record.specs.Refusals.{broken}
 use Rattle.queue_record.specs.WellFormed.{restZero, wellFormed}
-use Rattle.queue_record.proofs.Fit.{fit}
-use Rattle.queue_words.specs.Words.{word, slotsIn, queueOf, wordsOf, encodes, isSound}
+use Rattle.queue_record.specs.Record.{Sized}
+use Rattle.queue_record.specs.declared.record.Queue.{Queue}
+use Rattle.queue_record.specs.declared.record.Ticket.{Ticket}
+use Rattle.queue_record.specs.declared.record.Selection.the-variants.{Of}
+use Rattle.queue_record.proofs.Fit.{fit, selected-below}
+use Rattle.queue_words.specs.Words.{word, slotsIn, selectionIn, queueOf, wordsOf, encodes, isSound}
 use Rattle.queue_words.specs.Exported.{Exported, refusedOn, onRecord}
-use Rattle.queue_words.proofs.RoundTrip.{encoded, words-again, queue-sized}
+use Rattle.queue_words.proofs.RoundTrip.{encoded, words-again, queue-again, words-encode, queue-sized}
 use Rattle.queue_words.proofs.Setters.{Held}
+
+-- the words of a well-formed record are sound
+pub record-sound : (q : Queue) → Sized q → wellFormed q ≡ true → isSound (wordsOf q) ≡ true
+unfolding isSound
+record-sound q s w = pass _ (words-encode q s) ∙ (ap wellFormed (queue-again q s) ∙ w)
 
 module _ (ws : List ℕ) where
   pub unsound-by : (given : ℕ) (answered : Exported) → isSound ws ≡ false → (encodes ws ≡ true → wellFormed (queueOf ws) ≡ false → answered ≡ refusedOn broken given ws) → onRecord ws given answered ≡ refusedOn broken given ws
@@ -60,3 +69,8 @@ module _ (ws : List ℕ) where
     pub few-bindings : word ws 91 ≤ 16
     unfolding queueOf
     few-bindings = fit (queueOf ws) sound-fits .bound
+
+    -- the selected ticket names one of the 64 slots
+    pub own-place : (t : Ticket) → selectionIn ws ≡ Of t → t .token < 64
+    unfolding queueOf
+    own-place t e = selected-below (queueOf ws) t sound-fits e

@@ -1,14 +1,13 @@
 -- The questions on the words
-use Prim.Native.Nat.{ℕ, _+_, _-_, _<_, _≤_}
+use Prim.Native.Nat.{ℕ, _+_, _-_, _≤_}
 use mathlib.Core.Path.{_≡_, refl, sym, ap, _∙_}
 use mathlib.Core.Bool.{Bool, true, false, not}
-use mathlib.Core.List.{List, []}
+use mathlib.Core.List.{List}
 use native.Mathlib.Omega.{arith}
-use lib.ListN.{length, getD, take, drop}
+use lib.ListN.{take, drop}
 use lib.Seq.{take-take}
 use Rattle.stage.proofs.Ways.{hit, miss}
 use Rattle.queue_record.specs.Refusals.{done, broken}
-use Rattle.queue_record.specs.WellFormed.{wellFormed}
 use Rattle.queue_record.specs.Waiting.{occupied, others}
 use Rattle.queue_record.specs.Newest.{newest}
 use Rattle.queue_record.specs.declared.record.Ticket.{Ticket}
@@ -23,10 +22,9 @@ use Rattle.queue_questions.specs.declared.questions.DomainTold.{DomainTold}
 use Rattle.queue_questions.proofs.Left.{newest-left}
 use Rattle.queue_words.specs.Words.{word, markAt, slotsIn, selectionIn, queueOf, isSound}
 use Rattle.queue_words.specs.Exported.{exported, answerOf, refusedOn, toldSaid, toldOn, domainSaid, domainOn}
-use Rattle.queue_words.specs.InPlace.{yesWord, saidIn}
-use Rattle.queue_words.proofs.CheckParts.{free-in, own-in, slot-word, ticketIn}
-use Rattle.queue_words.proofs.OnWords.{unsound-by, sound-on, not-broken}
-use Rattle.queue_words.proofs.AttemptWords.{own-place}
+use Rattle.queue_words.specs.InPlace.{saidIn}
+use Rattle.queue_words.proofs.CheckParts.{free-in, own-in, slot-word}
+use Rattle.queue_words.proofs.OnWords.{unsound-by, sound-on, not-broken, own-place}
 
 -- yes or no is its word
 pub told-word : (ws : List ℕ) (b : Bool) → toldSaid (yesOrNo b) ws ≡ saidIn ws b

@@ -1,20 +1,20 @@
 -- The words of a record encode it, and words that encode a record are its words: an encoding is unique both ways
 use Prim.Native.Nat.{ℕ, suc, _+_, _<_, _≤_}
-use mathlib.Core.Path.{_≡_, refl, sym, ap, _∙_}
-use mathlib.Core.Bool.{true, _&&_}
+use mathlib.Core.Path.{_≡_, sym, ap, _∙_}
+use mathlib.Core.Bool.{true}
 use mathlib.Core.List.{List, [], _∷_, _++_}
 use native.Mathlib.Omega.{arith}
 use borrow.Author.Tests.{eq-eqb, eqb-true, leb-true}
 use lib.Dec.{eqb, leb}
 use lib.ListN.{length, take, drop, length-append, length-drop, take-append-drop, drop-of-length-le}
 use lib.Seq.{drop-cons, drop-drop, take-at, drop-at, getD-at, length-take-le}
-use Rattle.stage.specs.Phases.{phaseNumber, phaseAt}
+use Rattle.stage.specs.Phases.{phaseAt}
 use Rattle.stage.proofs.Ways.{pass, and-left, and-right}
 use Rattle.stage.proofs.Table.{phase-back}
 use Rattle.queue_record.specs.Record.{Sized}
 use Rattle.queue_record.specs.declared.record.Queue.{Queue}
-use Rattle.queue_words.specs.Words.{word, kindWord, kindAt, markWord, markAt, selectedWord, domainWord, tokenWord, attemptWord, slotsIn, bindingsIn, selectionIn, marksEncode, ticketEncodes, wordsBehind, queueOf, wordsOf, encodes}
-use Rattle.queue_words.proofs.Parts.{Selected, kind-back, mark-back, selection-back, kind-again, mark-again, phase-again, selection-again, marks-encode, ticket-encodes}
+use Rattle.queue_words.specs.Words.{word, kindAt, markAt, slotsIn, bindingsIn, selectionIn, marksEncode, ticketEncodes, wordsBehind, queueOf, wordsOf, encodes}
+use Rattle.queue_words.proofs.Parts.{kind-back, mark-back, selection-back, kind-again, mark-again, phase-again, selection-again, marks-encode, ticket-encodes}
 use Rattle.queue_words.proofs.Places.{word-behind}
 
 -- ---- 92 words, place by place

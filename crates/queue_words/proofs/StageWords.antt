@@ -9,11 +9,10 @@ use Rattle.stage.specs.declared.phases.Event.the-variants.{End, Cancel}
 use Rattle.stage.proofs.Ways.{hit, miss}
 use Rattle.queue_record.specs.Refusals.{broken}
 use Rattle.queue_record.specs.Record.{withPhase}
-use Rattle.queue_record.specs.WellFormed.{wellFormed}
 use Rattle.queue_questions.specs.Questions.{yesOrNo, matches}
 use Rattle.queue_stages.specs.Stages.{afterAdmit, admitted, ended, cancelledBy}
 use Rattle.queue_words.specs.Words.{word, queueOf, wordsOf, isSound}
-use Rattle.queue_words.specs.Exported.{Exported, exported, answerOf, refusedOn, toldSaid, stageExported, cancelExported, admitOn, admitWithoutOn, endOn, cancelOn}
+use Rattle.queue_words.specs.Exported.{refusedOn, toldSaid, stageExported, cancelExported, admitOn, admitWithoutOn, endOn, cancelOn}
 use Rattle.queue_words.specs.InPlace.{saidIn, movedIn}
 use Rattle.queue_words.proofs.Setters.{hold-phase}
 use Rattle.queue_words.proofs.QuestionWords.{told-word}

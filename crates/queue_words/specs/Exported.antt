@@ -2,7 +2,6 @@
 use Prim.Native.Nat.{ℕ}
 use mathlib.Core.Bool.{not, false}
 use mathlib.Core.List.{List, [], _∷_}
-use lib.ListN.{getD}
 use Rattle.stage.specs.Choice.{if_then_else_}
 use Rattle.queue_record.specs.Refusals.{done, broken}
 use Rattle.queue_record.specs.declared.openings.Opened.{Opened}

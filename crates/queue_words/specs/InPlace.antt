@@ -1,29 +1,19 @@
 -- Words changed in place: what each group of calls stores
-use Prim.Native.Nat.{ℕ, _+_}
+use Prim.Native.Nat.{ℕ}
 use mathlib.Core.Bool.{Bool, true, false}
-use mathlib.Core.List.{List, [], _∷_}
+use mathlib.Core.List.{List}
 use lib.ListN.{length, set, replicate}
 use lib.Seq.{paste}
 use Rattle.stage.specs.Phases.{phaseNumber}
 use Rattle.stage.specs.declared.phases.Phase.{Phase}
 use Rattle.queue_record.specs.Refusals.{done}
-use Rattle.queue_record.specs.declared.record.Ticket.{Ticket}
 use Rattle.queue_record.specs.declared.record.Selection.{Selection}
-use Rattle.queue_record.specs.declared.record.Selection.the-variants.{Of}
-use Rattle.queue_words.specs.Words.{word, selectedWord, domainWord, tokenWord, attemptWord}
+use Rattle.queue_words.specs.Words.{selectedWord, domainWord, tokenWord, attemptWord}
 use Rattle.queue_words.specs.Exported.{Exported, exported, answerOf}
 
 -- the four words of a selection
 abbrev pub setSelection : List ℕ → Selection → List ℕ
 setSelection ws s = set (set (set (set ws 68 (selectedWord s)) 69 (domainWord s)) 70 (tokenWord s)) 71 (attemptWord s)
-
--- the ticket is selected, its slot empties, next and issued are set
-abbrev pub issuedIn : List ℕ → Ticket → ℕ → List ℕ
-issuedIn ws t next = set (set (set (setSelection ws (Of t)) (3 + t .token) 0) 2 next) 73 1
-
--- the ticket and its number are the answer
-unfoldable pub handedIn : List ℕ → Ticket → ℕ → Exported
-handedIn ws t next = exported done (2 ∷ t .domain ∷ t .token ∷ t .attempt ∷ word ws (3 + t .token) ∷ []) (issuedIn ws t next)
 
 -- yes or no as a word
 abbrev pub yesWord : Bool → ℕ

@@ -1,7 +1,6 @@
 // A queue as 92 words: its parts as they stand there, the check on the way in, and what the calls share.
 mod check;
 mod decoding;
-mod encoding;
 mod questions;
 mod search;
 mod steps;
@@ -10,14 +9,12 @@ pub use check::sound;
 pub use decoding::kind_at;
 pub use decoding::selection_at;
 pub use decoding::ticket_at;
-pub use encoding::put_record;
-pub use encoding::put_selection;
 pub use questions::finish_allowed;
 pub use questions::nothing_left;
 pub use questions::retry_allowed;
 pub use search::newest_waiting;
 pub use search::target_matches;
-pub use steps::hand_out;
+pub use steps::deselect;
 pub use steps::move_stage;
 pub use steps::put_iterator;
 pub use steps::put_run;

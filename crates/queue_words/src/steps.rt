@@ -1,12 +1,12 @@
-// The stores that calls share: a ticket selected, handed out, the stage moved, the openings.
+// The stores that calls share: the selection, the stage, the openings.
 use queue_record::Ticket;
 use stage::Phase;
 ghost use mathlib.Core.Path.{_≡_};
-ghost use Prim.Native.Nat.{_+_, _<_, _≤_};
+ghost use Prim.Native.Nat.{_+_, _≤_};
 ghost use lib.ListN.{length};
-ghost use Rattle.queue_record.specs.declared.record.Selection.the-variants.{Of};
+ghost use Rattle.queue_record.specs.declared.record.Selection.the-variants.{Free, Of};
 ghost use Rattle.queue_words.specs.Exported.{exported};
-ghost use Rattle.queue_words.specs.InPlace.{setSelection, handedIn, yesWord, movedIn, scopeIn, iteratorIn, runPut};
+ghost use Rattle.queue_words.specs.InPlace.{setSelection, yesWord, movedIn, scopeIn, iteratorIn, runPut};
 
 pub fn select(queue: &mut [u64; 92], ticket: Ticket)
     ensures { λ _. ⌜ now (queue .exit) ≡ setSelection (now (queue .entry)) (Of ticket) ⌝ }
@@ -17,19 +17,14 @@ pub fn select(queue: &mut [u64; 92], ticket: Ticket)
     queue[71] = ticket.attempt;
 }
 
-// The ticket with its number, and the queue that waits for its answer.
-pub fn hand_out(queue: &mut [u64; 92], ticket: Ticket, next: u64, answer: &mut [u64; 5]) -> u64
-    requires { ⌜ ticket .token < 64 ⌝ }
-    ensures { λ r. ⌜ exported r (now (answer .exit)) (now (queue .exit)) ≡ handedIn (now (queue .entry)) ticket next ⌝ }
+// Four times 0: nothing is selected.
+pub fn deselect(queue: &mut [u64; 92])
+    ensures { λ _. ⌜ now (queue .exit) ≡ setSelection (now (queue .entry)) Free ⌝ }
 {
-    let at = 3 + ticket.token as usize;
-    let number = queue[at];
-    select(queue, ticket);
-    queue[at] = 0;
-    queue[2] = next;
-    queue[73] = 1;
-    *answer = [2, ticket.domain, ticket.token, ticket.attempt, number];
-    0
+    queue[68] = 0;
+    queue[69] = 0;
+    queue[70] = 0;
+    queue[71] = 0;
 }
 
 pub fn yes_word(told: bool) -> u64

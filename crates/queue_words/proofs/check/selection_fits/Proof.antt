@@ -1,6 +1,5 @@
 -- No mark where nothing is selected; else the ticket, the marks and the slot
-use mathlib.Core.Path.{_≡_, sym, _∙_}
-use Prim.Native.Nat.{_<_}
+use mathlib.Core.Path.{sym, _∙_}
 use native.Mathlib.Omega.{arith}
 use borrow.Author.Tests.{eq-eqb, ne-eqb, not-true, not-false}
 use Rattle.queue_record.proofs.Marks.{free-failed, free-issued}

@@ -1,5 +1,5 @@
 -- The words' own selection, phase and bindings in use
-use mathlib.Core.Path.{ap, _∙_}
+use mathlib.Core.Path.{ap}
 use mathlib.Core.List.{List}
 use Prim.Native.Nat.{ℕ}
 use Rattle.queue_questions.specs.Questions.{finishable}

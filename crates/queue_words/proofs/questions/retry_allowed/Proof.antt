@@ -1,7 +1,7 @@
 -- No without a ticket; else its slot, the mark and the attempts left
 use mathlib.Core.Path.{sym, _∙_}
 use native.Mathlib.Omega.{arith}
-use Rattle.queue_words.proofs.AttemptWords.{own-place}
+use Rattle.queue_words.proofs.OnWords.{own-place}
 use Rattle.queue_words.proofs.QuestionWords.{allowed-free, allowed-own}
 use borrow.Author.Needs.{needs}
 use Rattle.queue_words.proofs.questions.retry_allowed.Statement.{statement}

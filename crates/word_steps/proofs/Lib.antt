@@ -1,0 +1,5 @@
+pub mod Through
+pub mod BirthLaws
+pub mod PopLaws
+pub mod CompleteLaws
+pub mod RetryLaws

@@ -1,0 +1,4 @@
+pub mod Births
+pub mod Pops
+pub mod Answers
+pub mod Renewals
