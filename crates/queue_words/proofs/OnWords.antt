@@ -68,7 +68,7 @@ module _ (ws : List ℕ) where
 
     pub few-bindings : word ws 91 ≤ 16
     unfolding queueOf
-    few-bindings = fit (queueOf ws) sound-fits .bound
+    few-bindings = fit (queueOf ws) sound-fits .given .bound
 
     -- the selected ticket names one of the 64 slots
     pub own-place : (t : Ticket) → selectionIn ws ≡ Of t → t .token < 64
