@@ -76,7 +76,7 @@ module _ (q : Queue) where
   questions-number target = (asked-number (nothingLeft (q .selection) (waiting q)), asked-number (q .issued), asked-number (isPending (q .phase)), asked-number (isSettled (q .phase)), asked-number (isCancelled (q .phase)), asked-number (q .failed), asked-number (retryAllowed q (q .selection)), asked-number (finishable (q .selection) (q .phase) target (committed q)))
 
   pub admit-number : (matched : Bool) → OnlyBroken q (admitted q matched .answer)
-  admit-number matched = first (brokenOnly q) [] (bit (isPending (afterAdmit (q .phase) matched)) ∷ []) (admit-said q matched)
+  admit-number matched = first (brokenOnly q) [] (bit (isPending (admitted q matched .queue .phase)) ∷ []) (admit-said q matched)
 
   pub end-number : OnlyBroken q (ended q .answer)
   end-number = first (brokenOnly q) [] (bit (isPending (q .phase)) ∷ []) (end-said q)

@@ -1,6 +1,6 @@
 -- What each call says, number and values: the first refusal that is due with what it gives back, or 0 with the call's own values; a refusal's number is never 0
 use Prim.Native.Nat.{ℕ}
-use mathlib.Core.Path.{_≡_, refl, ap, _∙_}
+use mathlib.Core.Path.{_≡_, refl, sym, ap, _∙_}
 use mathlib.Core.Bool.{Bool, true, false, not, _&&_}
 use mathlib.Core.List.{List, [], _∷_}
 use native.Mathlib.Omega.{arith}
@@ -42,6 +42,7 @@ use Rattle.queue_stages.specs.declared.stages.Cancelled.{Cancelled}
 use Rattle.cleanup_queue.specs.Answers.{Said, says, openedSays, registeredSays, poppedSays, completedSays, retriedSays, toldSays, cancelledSays, domainSays}
 use Rattle.cleanup_queue.specs.Orders.{due, firstSaid, RefusedAs, openingOrder, registerOrder, landOrder, freshToken, chosenToken, isHollow, popOrder, freshValues, workValues, completeOrder, retryOrder, renewedValues, brokenOnly, bit, Tells}
 use Rattle.cleanup_queue.proofs.ByCase.{register-cases, register-by, land-cases, land-by, pop-cases, pop-by, complete-cases, complete-by, retry-cases, retry-by}
+use Rattle.cleanup_queue.proofs.Upstream.{admit-answers, end-answers}
 
 -- one test more in front: what it refuses with is said exactly if it holds
 pub due-if : {A B : Type 0} (said : A → B) (b : Bool) (x y : A) {k m : B} → said x ≡ k → said y ≡ m → said (if b then x else y) ≡ (if b then k else m)
@@ -67,8 +68,8 @@ module _ (q : Queue) (n : ℕ) where
   abbrev birth : RegisterAnswer → Said
   birth r = registeredSays (r .answer)
 
-  abbrev Unborn : RegisterAnswer → Type 0
-  Unborn r = RefusedAs q (n ∷ []) (birth r) (r .queue)
+  abbrev GivenBack : RegisterAnswer → Type 0
+  GivenBack r = RefusedAs q (n ∷ []) (birth r) (r .queue)
 
   abbrev NoZero : RegisterAnswer → Type 0
   NoZero r = (given : ℕ) → r .answer ≡ Registered.Refused 0 given → ⊥
@@ -84,7 +85,7 @@ module _ (q : Queue) (n : ℕ) where
   register-said = due-if birth (not (wellFormed q)) _ _ refl (due-if birth (eqb n 0) _ _ refl (due-if birth (leb 64 (q .count)) _ _ refl refl))
 
   pub register-refused : RefusedAs q (n ∷ []) (registeredSays (registered q n .answer)) (registered q n .queue)
-  register-refused = register-by Unborn q n (λ _ _. (refl, refl)) (λ _ _ _ z. absurd (z refl))
+  register-refused = register-by GivenBack q n (λ _ _. (refl, refl)) (λ _ _ _ z. absurd (z refl))
 
   pub register-no-zero : (given : ℕ) → registered q n .answer ≡ Registered.Refused 0 given → ⊥
   register-no-zero = register-cases NoZero q n refused-no-zero (λ _ _ _. token-no-zero)
@@ -94,7 +95,7 @@ module _ (q : Queue) (n : ℕ) where
   land-said = due-if birth (not (wellFormed q)) _ _ refl (due-if birth (eqb n 0) _ _ refl (due-if birth (not (isPending (q .phase))) _ _ refl (due-if birth (leb 64 (q .count)) _ _ refl refl)))
 
   pub land-refused : RefusedAs q (n ∷ []) (registeredSays (landed q n .answer)) (landed q n .queue)
-  land-refused = land-by Unborn q n (λ _ _. (refl, refl)) (λ _ _ _ _ z. absurd (z refl))
+  land-refused = land-by GivenBack q n (λ _ _. (refl, refl)) (λ _ _ _ _ z. absurd (z refl))
 
   pub land-no-zero : (given : ℕ) → landed q n .answer ≡ Registered.Refused 0 given → ⊥
   land-no-zero = land-cases NoZero q n refused-no-zero (λ _ _ _ _. token-no-zero)
@@ -186,13 +187,13 @@ module _ (q : Queue) where
   unfolding isEmptyTold isIssuedTold isPendingTold isSettledTold isCancelledTold hasFailedTold canRetryTold canFinishTold
   questions-said target = (asked-said (nothingLeft (q .selection) (waiting q)), asked-said (q .issued), asked-said (isPending (q .phase)), asked-said (isSettled (q .phase)), asked-said (isCancelled (q .phase)), asked-said (q .failed), asked-said (retryAllowed q (q .selection)), asked-said (finishable (q .selection) (q .phase) target (committed q)))
 
-  pub admit-said : (matched : Bool) → Tells q (isPending (afterAdmit (q .phase) matched)) (admitted q matched .answer)
-  unfolding admitted
-  admit-said matched = due-if (λ (r : StageAnswer). toldSays (r .answer)) (not (wellFormed q)) _ _ refl (told-said (isPending (afterAdmit (q .phase) matched)))
+  -- whether the stage is pending afterwards
+  pub admit-said : (matched : Bool) → Tells q (isPending (admitted q matched .queue .phase)) (admitted q matched .answer)
+  admit-said matched = ap toldSays (admit-answers q matched) ∙ asked-said (isPending (admitted q matched .queue .phase))
 
+  -- whether it was pending before
   pub end-said : Tells q (isPending (q .phase)) (ended q .answer)
-  unfolding ended
-  end-said = due-if (λ (r : StageAnswer). toldSays (r .answer)) (not (wellFormed q)) _ _ refl (told-said (isPending (q .phase)))
+  end-said = ap toldSays (end-answers q) ∙ asked-said (isPending (q .phase))
 
   pub cancel-said : cancelledSays (cancelledBy q .answer) ≡ firstSaid (brokenOnly q) [] []
   unfolding cancelledBy
@@ -223,12 +224,10 @@ module _ (q : Queue) where
   cancel-refused = if-by (λ (r : CancelAnswer). RefusedAs q [] (cancelledSays (r .answer)) (r .queue)) (not (wellFormed q)) _ _ (λ _ _. (refl, refl)) (λ _ z. absurd (z refl))
 
   pub admit-no-zero : (matched : Bool) → admitted q matched .answer ≡ Told.Refused 0 → ⊥
-  unfolding admitted
-  admit-no-zero matched = if-by (λ (r : StageAnswer). r .answer ≡ Told.Refused 0 → ⊥) (not (wellFormed q)) _ _ (λ _ e. let z : _≡_ {A = ℕ} 1 0 = cc in omega arith) (λ _ e. never-refused (isPending (afterAdmit (q .phase) matched)) 0 e)
+  admit-no-zero matched e = asked-no-zero (isPending (admitted q matched .queue .phase)) (sym (admit-answers q matched) ∙ e)
 
   pub end-no-zero : ended q .answer ≡ Told.Refused 0 → ⊥
-  unfolding ended
-  end-no-zero = if-by (λ (r : StageAnswer). r .answer ≡ Told.Refused 0 → ⊥) (not (wellFormed q)) _ _ (λ _ e. let z : _≡_ {A = ℕ} 1 0 = cc in omega arith) (λ _ e. never-refused (isPending (q .phase)) 0 e)
+  end-no-zero e = asked-no-zero (isPending (q .phase)) (sym (end-answers q) ∙ e)
 
   pub cancel-no-zero : cancelledBy q .answer ≡ Cancelled.Refused 0 → ⊥
   unfolding cancelledBy

@@ -1,4 +1,4 @@
--- Upstream's clauses that follow from a call's one equation by an argument; the ids are the rows of docs/CONTRACTS.md
+-- What each call asks, changes and leaves, part by part: upstream's clauses, whose ids are the rows of docs/CONTRACTS.md, and what these leave open
 use Prim.Native.Nat.{ℕ, zero, suc, _+_, _<_, _≤_}
 use mathlib.Core.Path.{_≡_, refl, sym, ap, _∙_}
 use mathlib.Core.Logic.{_⊎_, inl, inr, ⊎-elim}

@@ -9,7 +9,7 @@ use lib.Dec.{eqb}
 use lib.ListN.{length, set}
 use Rattle.stage.proofs.Ways.{if-by, pass}
 use Rattle.queue_record.specs.Record.{Sized, withSelection, withFailed}
-use Rattle.queue_record.specs.WellFormed.{wellFormed}
+use Rattle.queue_record.specs.WellFormed.{ticketFits, wellFormed}
 use Rattle.queue_record.specs.Waiting.{occupied, without, others, waiting}
 use Rattle.queue_record.specs.Newest.{newest}
 use Rattle.queue_record.specs.declared.search.Found.the-variants.{At}
@@ -18,7 +18,6 @@ use Rattle.queue_record.specs.declared.record.Selection.{Selection}
 use Rattle.queue_record.specs.declared.record.Selection.the-variants.{Free, Of}
 use Rattle.queue_record.specs.declared.record.Queue.{Queue}
 use Rattle.queue_record.proofs.Fit.{fit, ticket-born}
-use Rattle.queue_record.specs.WellFormed.{ticketFits}
 use Rattle.queue_record.proofs.Waiting.{without-keep, without-append, emptied-slots, stored-slots, appended-slots}
 use Rattle.queue_record.proofs.Last.{newest-last}
 use Rattle.queue_steps.specs.Births.{grown, registered, landed}
