@@ -1,17 +1,17 @@
 // The group calls: each prints its answer and hands on the record.
 use crate::print;
+use group_endings::CloseAnswer;
+use group_endings::Closed;
 use group_lives::AddAnswer;
 use group_lives::Added;
-use group_lives::CloseAnswer;
-use group_lives::Closed;
 use group_record::Groups;
+use queue_births::Registered;
 use queue_questions::DomainTold;
 use queue_questions::Told;
 use queue_record::Opened;
 use queue_record::Ticket;
 use queue_steps::Completed;
 use queue_steps::Popped;
-use queue_steps::Registered;
 use queue_steps::Retried;
 
 pub fn new(case: u64, base: u64) -> Groups {
@@ -60,11 +60,11 @@ fn closed(case: u64, what: &[u8], a: CloseAnswer) -> Groups {
 }
 
 pub fn close(case: u64, g: Groups, id: u64) -> Groups {
-    closed(case, b"close", group_lives::remove(g, id))
+    closed(case, b"close", group_endings::remove(g, id))
 }
 
 pub fn seal(case: u64, g: Groups) -> Groups {
-    closed(case, b"seal", group_lives::seal(g))
+    closed(case, b"seal", group_endings::seal(g))
 }
 
 fn born(case: u64, what: &[u8], answer: Registered) {

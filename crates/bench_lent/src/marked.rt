@@ -23,7 +23,7 @@ fn no_ticket() -> Ticket {
 }
 
 fn register(case: u64, q: Queue, undo: u64) -> Queue {
-    let a = queue_steps::register(q, undo);
+    let a = queue_births::register(q, undo);
     let answer = a.answer;
     let after = a.queue;
     print::start(case, b"register");

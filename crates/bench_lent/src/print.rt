@@ -1,11 +1,11 @@
 // Words, numbers and answers on standard output.
 use libc::STDOUT_FILENO;
+use queue_births::Registered;
 use queue_record::Queue;
 use queue_record::Selection;
 use queue_record::Ticket;
 use queue_steps::Completed;
 use queue_steps::Popped;
-use queue_steps::Registered;
 use queue_steps::Retried;
 
 // What an answer carries where nothing was refused.

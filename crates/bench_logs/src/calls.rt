@@ -9,7 +9,7 @@ use cleanup_queue::Retried;
 use cleanup_queue::Ticket;
 use cleanup_queue::Told;
 use log_calls::RegisterRecorded;
-use log_calls::StageRecorded;
+use log_stages::StageRecorded;
 
 pub struct Past {
     pub queue: Queue,
@@ -61,7 +61,7 @@ pub fn land(section: u8, case: u64, p: Past, undo: u64, log: &mut [u64]) -> Past
 
 pub fn pop(section: u8, case: u64, p: Past, log: &mut [u64]) -> Past {
     let before = p.queue;
-    let a = log_calls::pop_recorded(before, log, p.used);
+    let a = log_attempts::pop_recorded(before, log, p.used);
     let answer = a.answer;
     let q = a.queue;
     print::start(section, case, b"pop");
@@ -95,7 +95,7 @@ pub fn complete(
         token: token,
         attempt: attempt,
     };
-    let a = log_calls::complete_recorded(before, ticket, outcome, kept, log, p.used);
+    let a = log_attempts::complete_recorded(before, ticket, outcome, kept, log, p.used);
     let answer = a.answer;
     let q = a.queue;
     print::start(section, case, b"complete");
@@ -111,7 +111,7 @@ pub fn complete(
 
 pub fn retry(section: u8, case: u64, p: Past, log: &mut [u64]) -> Past {
     let before = p.queue;
-    let a = log_calls::retry_recorded(before, log, p.used);
+    let a = log_attempts::retry_recorded(before, log, p.used);
     let answer = a.answer;
     let q = a.queue;
     print::start(section, case, b"retry");
@@ -147,25 +147,25 @@ fn staged(section: u8, case: u64, call: &[u8], a: StageRecorded) -> Past {
 
 pub fn admit(section: u8, case: u64, p: Past, target: &[u64], log: &mut [u64]) -> Past {
     let before = p.queue;
-    let a = log_calls::admit_recorded(before, target, log, p.used);
+    let a = log_stages::admit_recorded(before, target, log, p.used);
     staged(section, case, b"admit", a)
 }
 
 pub fn admit_without(section: u8, case: u64, p: Past, log: &mut [u64]) -> Past {
     let before = p.queue;
-    let a = log_calls::admit_without_recorded(before, log, p.used);
+    let a = log_stages::admit_without_recorded(before, log, p.used);
     staged(section, case, b"admit_without", a)
 }
 
 pub fn end(section: u8, case: u64, p: Past, log: &mut [u64]) -> Past {
     let before = p.queue;
-    let a = log_calls::end_recorded(before, log, p.used);
+    let a = log_stages::end_recorded(before, log, p.used);
     staged(section, case, b"end", a)
 }
 
 pub fn cancel(section: u8, case: u64, p: Past, log: &mut [u64]) -> Past {
     let before = p.queue;
-    let a = log_calls::cancel_recorded(before, log, p.used);
+    let a = log_stages::cancel_recorded(before, log, p.used);
     let answer = a.answer;
     let q = a.queue;
     print::start(section, case, b"cancel");

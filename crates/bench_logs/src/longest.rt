@@ -10,15 +10,15 @@ use cleanup_queue::Popped;
 // Pop, Failed with the number kept, retry.
 fn failed_turn(past: Past, log: &mut [u64]) -> Past {
     let q = past.queue;
-    let out = log_calls::pop_recorded(q, log, past.used);
+    let out = log_attempts::pop_recorded(q, log, past.used);
     let answer = out.answer;
     let issued = out.queue;
     let Popped::Work(ticket, undo) = answer else {
         return past;
     };
-    let back = log_calls::complete_recorded(issued, ticket, 1, undo, log, out.used);
+    let back = log_attempts::complete_recorded(issued, ticket, 1, undo, log, out.used);
     let failed = back.queue;
-    let again = log_calls::retry_recorded(failed, log, back.used);
+    let again = log_attempts::retry_recorded(failed, log, back.used);
     let ready = again.queue;
     Past {
         queue: ready,

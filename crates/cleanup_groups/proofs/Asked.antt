@@ -15,12 +15,12 @@ use Rattle.queue_questions.specs.Questions.{yesOrNo, canFinishTold}
 use Rattle.queue_questions.specs.declared.questions.Told.{Told}
 use Rattle.queue_questions.specs.declared.questions.Told.the-variants.{Yes}
 use Rattle.group_record.specs.Record.{placeAt, queueAt}
-use Rattle.group_record.specs.Questions.{isYes, stuck, finishes, drained, asksLive, asksFree, asksOf}
-use Rattle.group_record.specs.Scan.{someYes}
+use Rattle.group_asking.specs.Questions.{isYes, stuck, finishes, drained, asksLive, asksFree, asksOf}
+use Rattle.group_asking.specs.Scan.{someYes}
 use Rattle.group_check.specs.WellFormed.{wellGrouped}
 use Rattle.group_record.specs.declared.record.Groups.{Groups}
-use Rattle.group_record.specs.declared.questions.Question.{Question}
-use Rattle.group_record.specs.declared.questions.Question.the-variants.{Holds, Pending, Issued, Failed, Stuck, Unfinished, Undrained}
+use Rattle.group_asking.specs.declared.questions.Question.{Question}
+use Rattle.group_asking.specs.declared.questions.Question.the-variants.{Holds, Pending, Issued, Failed, Stuck, Unfinished, Undrained}
 use Rattle.group_survey.specs.Whole.{toldOf, containsTold, hasPendingOf, hasIssuedOf, hasFailedOf, retriesAll, canRetryAllOf, canFinishOf, canSealOf}
 use Rattle.cleanup_groups.specs.Promises.{LiveAt, idAt, IsLive, SomeLive, EveryLive}
 use Rattle.cleanup_groups.proofs.Every.{none-each, each-none, some-one, one-some}

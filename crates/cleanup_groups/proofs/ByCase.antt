@@ -22,19 +22,19 @@ use Rattle.queue_record.proofs.Opened.{scope-well-formed, scope-sized, iterator
 use Rattle.queue_questions.specs.Questions.{matches}
 use Rattle.cleanup_queue.specs.Runs as queue
 use Rattle.group_record.specs.Record.{queueAt, freePlace, withPlace, withQueue, opening, sealing}
-use Rattle.group_record.specs.Questions.{drained}
-use Rattle.group_record.specs.Scan.{firstYes, someYes}
+use Rattle.group_asking.specs.Questions.{drained}
+use Rattle.group_asking.specs.Scan.{firstYes, someYes}
 use Rattle.group_check.specs.WellFormed.{ids, wellGrouped}
 use Rattle.group_check.specs.Ids.{spotAt, spotOf}
 use Rattle.group_record.specs.declared.record.Groups.{Groups}
-use Rattle.group_record.specs.declared.questions.Question.the-variants.{Free, Holds, Undrained}
+use Rattle.group_asking.specs.declared.questions.Question.the-variants.{Free, Holds, Undrained}
 use Rattle.group_check.specs.declared.ids.Spot.{Spot}
 use Rattle.group_survey.specs.Whole.{retriesAll}
 use Rattle.group_lives.specs.Openings.{unsealed, roomAt, roomOf, nextDomain, refusedAdd, addedAt, added, addedScopeBy, addedScope, addedQueue, addedIteratorBy, addedIterator}
-use Rattle.group_lives.specs.Endings.{refusedClose, removedAt, removed, sealedBy, sealedIn}
+use Rattle.group_endings.specs.Endings.{refusedClose, removedAt, removed, sealedBy, sealedIn}
 use Rattle.group_lives.specs.declared.openings.AddAnswer.{AddAnswer}
-use Rattle.group_lives.specs.declared.endings.Closed.the-variants.{Done}
-use Rattle.group_lives.specs.declared.endings.CloseAnswer.{CloseAnswer}
+use Rattle.group_endings.specs.declared.endings.Closed.the-variants.{Done}
+use Rattle.group_endings.specs.declared.endings.CloseAnswer.{CloseAnswer}
 use Rattle.group_steps.specs.Births.{registeredAt, registeredIn, landedAt, landedIn}
 use Rattle.group_steps.specs.Attempts.{poppedAt, poppedIn, completedAt, completedIn, retriedAt, retriedIn}
 use Rattle.group_stages.specs.Stages.{admittedAt, admittedIn, admittedAtWithout, admittedInWithout, endedAt, endedIn, cancelledAt, cancelledIn}

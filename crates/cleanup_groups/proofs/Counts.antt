@@ -13,11 +13,11 @@ use Rattle.group_record.specs.declared.record.Place.{Place}
 use Rattle.group_record.specs.declared.record.Groups.{Groups}
 use Rattle.group_check.specs.Count.{liveCount}
 use Rattle.group_lives.specs.Openings.{addedScope, addedIterator}
-use Rattle.group_lives.specs.Endings.{removed}
+use Rattle.group_endings.specs.Endings.{removed}
 use Rattle.group_lives.specs.declared.openings.Added.{Added}
 use Rattle.group_lives.specs.declared.openings.AddAnswer.{AddAnswer}
-use Rattle.group_lives.specs.declared.endings.Closed.the-variants.{Done}
-use Rattle.group_lives.specs.declared.endings.CloseAnswer.{CloseAnswer}
+use Rattle.group_endings.specs.declared.endings.Closed.the-variants.{Done}
+use Rattle.group_endings.specs.declared.endings.CloseAnswer.{CloseAnswer}
 use Rattle.cleanup_groups.specs.Promises.{LiveAt}
 use Rattle.cleanup_groups.proofs.ByCase.{scope-by, iterator-by, close-by}
 use Rattle.cleanup_groups.proofs.Keeps.{spot-live, room-free}

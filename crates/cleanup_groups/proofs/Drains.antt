@@ -18,16 +18,16 @@ use Rattle.queue_questions.specs.declared.questions.Told.{Told}
 use Rattle.queue_questions.specs.declared.questions.Told.the-variants.{Yes, No}
 use Rattle.cleanup_queue.proofs.Upstream.{empty-means, means-empty, empty-holds-nothing}
 use Rattle.group_record.specs.Record.{queueAt, freePlace, withPlace, sealing}
-use Rattle.group_record.specs.Questions.{isYes, drained}
-use Rattle.group_record.specs.Scan.{someYes}
+use Rattle.group_asking.specs.Questions.{isYes, drained}
+use Rattle.group_asking.specs.Scan.{someYes}
 use Rattle.group_check.specs.WellFormed.{wellGrouped}
 use Rattle.group_check.specs.Ids.{spotOf}
 use Rattle.group_record.specs.declared.record.Groups.{Groups}
-use Rattle.group_record.specs.declared.questions.Question.the-variants.{Undrained}
+use Rattle.group_asking.specs.declared.questions.Question.the-variants.{Undrained}
 use Rattle.group_check.specs.declared.ids.Spot.{Spot}
-use Rattle.group_lives.specs.Endings.{refusedClose, removed, sealedBy, sealedIn}
-use Rattle.group_lives.specs.declared.endings.Closed.the-variants.{Done}
-use Rattle.group_lives.specs.declared.endings.CloseAnswer.{CloseAnswer}
+use Rattle.group_endings.specs.Endings.{refusedClose, removed, sealedBy, sealedIn}
+use Rattle.group_endings.specs.declared.endings.Closed.the-variants.{Done}
+use Rattle.group_endings.specs.declared.endings.CloseAnswer.{CloseAnswer}
 use Rattle.group_lives.proofs.Room.{unsealed-means, means-unsealed}
 use Rattle.group_check.proofs.Spots.{spot-means}
 use Rattle.cleanup_groups.specs.Promises.{LiveAt, Nothing}

@@ -11,7 +11,7 @@ use Rattle.queue_record.specs.Newest.{isThere}
 use Rattle.queue_record.specs.declared.search.Found.{Found}
 use Rattle.queue_record.specs.declared.search.Found.the-variants.{At, Missing}
 use Rattle.group_record.specs.Record.{nowhere}
-use Rattle.group_record.specs.Scan.{firstFrom}
+use Rattle.group_asking.specs.Scan.{firstFrom}
 use Rattle.group_record.specs.declared.record.Place.{Place}
 
 module _ (says : Place → Bool) where

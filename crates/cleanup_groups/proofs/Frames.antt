@@ -11,8 +11,8 @@ use Rattle.group_check.specs.Ids.{spotOf}
 use Rattle.group_record.specs.declared.record.Place.{Place}
 use Rattle.group_record.specs.declared.record.Groups.{Groups}
 use Rattle.group_check.specs.declared.ids.Spot.{Spot}
-use Rattle.group_lives.specs.Endings.{removed}
-use Rattle.group_lives.specs.declared.endings.CloseAnswer.{CloseAnswer}
+use Rattle.group_endings.specs.Endings.{removed}
+use Rattle.group_endings.specs.declared.endings.CloseAnswer.{CloseAnswer}
 use Rattle.group_steps.specs.Births.{registeredAt, registeredIn, landedAt, landedIn}
 use Rattle.group_steps.specs.Attempts.{poppedAt, poppedIn, completedAt, completedIn, retriedAt, retriedIn}
 use Rattle.group_stages.specs.Stages.{admittedAt, admittedIn, admittedAtWithout, admittedInWithout, endedAt, endedIn, cancelledAt, cancelledIn}

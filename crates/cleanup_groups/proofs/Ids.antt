@@ -11,8 +11,8 @@ use Rattle.cleanup_queue.specs.Runs as queue
 use Rattle.group_record.specs.Record.{placeAt, queueAt, freePlace, livePlace, holding, withPlace, sealing}
 use Rattle.group_check.specs.WellFormed.{wellGrouped}
 use Rattle.group_check.proofs.Spots.{spot-means}
-use Rattle.group_lives.specs.Endings.{removed}
-use Rattle.group_lives.specs.declared.endings.Closed.the-variants.{Done}
+use Rattle.group_endings.specs.Endings.{removed}
+use Rattle.group_endings.specs.declared.endings.Closed.the-variants.{Done}
 use Rattle.group_record.specs.declared.record.Place.{Place}
 use Rattle.group_record.specs.declared.record.Groups.{Groups}
 use Rattle.cleanup_groups.specs.Promises.{LiveAt, idAt, Sound, IsLive}

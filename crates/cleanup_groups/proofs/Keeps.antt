@@ -20,14 +20,14 @@ use Rattle.cleanup_queue.proofs.Sizes as sizes
 use Rattle.cleanup_queue.proofs.Upstream.{call-keeps-domain}
 use Rattle.group_record.specs.Record.{nowhere, placeAt, queueAt, freePlace, livePlace, holding, withPlace, withQueue, withNext, emptyOf, opening, sealing}
 use Rattle.group_record.specs.Blank.{isBlank}
-use Rattle.group_record.specs.Questions.{asksOf}
-use Rattle.group_record.specs.Scan.{firstYes}
+use Rattle.group_asking.specs.Questions.{asksOf}
+use Rattle.group_asking.specs.Scan.{firstYes}
 use Rattle.group_check.specs.WellFormed.{lastBase, ids, wellGrouped}
 use Rattle.group_check.specs.Ids.{spotOf}
 use Rattle.group_record.specs.declared.record.Place.{Place}
 use Rattle.group_record.specs.declared.record.Groups.{Groups}
-use Rattle.group_record.specs.declared.questions.Question.{Question}
-use Rattle.group_record.specs.declared.questions.Question.the-variants.{Free, Holds}
+use Rattle.group_asking.specs.declared.questions.Question.{Question}
+use Rattle.group_asking.specs.declared.questions.Question.the-variants.{Free, Holds}
 use Rattle.group_check.specs.declared.ids.Spot.{Spot}
 use Rattle.group_check.proofs.Spots.{spot-means}
 use Rattle.group_lives.specs.Openings.{newOf, roomOf}

@@ -18,25 +18,25 @@ use Rattle.queue_record.specs.declared.search.Found.the-variants.{At, Missing}
 use Rattle.queue_questions.specs.Questions.{yesOrNo, matches, isCancelledTold, domainTold}
 use Rattle.queue_questions.specs.declared.questions.Told.{Told}
 use Rattle.queue_questions.specs.declared.questions.DomainTold.{DomainTold}
-use Rattle.queue_steps.specs.Births.{registered, landed}
+use Rattle.queue_births.specs.Births.{registered, landed}
 use Rattle.queue_steps.specs.Attempts.{popped, completed, retried}
 use Rattle.queue_stages.specs.Stages.{admitted, ended, cancelledBy}
 use Rattle.cleanup_queue.proofs.Finish.{yes-asked}
 use Rattle.group_record.specs.Record.{queueAt, freePlace}
-use Rattle.group_record.specs.Scan.{firstYes}
+use Rattle.group_asking.specs.Scan.{firstYes}
 use Rattle.group_check.specs.WellFormed.{wellGrouped}
 use Rattle.group_check.specs.Ids.{spotAt, spotOf, gotAt, got}
 use Rattle.group_record.specs.declared.record.Place.{Place}
 use Rattle.group_record.specs.declared.record.Groups.{Groups}
-use Rattle.group_record.specs.declared.questions.Question.the-variants.{Holds}
+use Rattle.group_asking.specs.declared.questions.Question.the-variants.{Holds}
 use Rattle.group_check.specs.declared.ids.Spot.{Spot}
 use Rattle.group_check.specs.declared.ids.Got.{Got}
 use Rattle.group_check.specs.declared.ids.GetAnswer.{GetAnswer}
 use Rattle.group_check.proofs.Spots.{spot-means}
 use Rattle.group_questions.specs.ById.{toldBy, domainBy, domainIn, negation, acceptsIn}
-use Rattle.group_lives.specs.Endings.{removedAt, removed}
-use Rattle.group_lives.specs.declared.endings.Closed.the-variants.{Done}
-use Rattle.group_lives.specs.declared.endings.CloseAnswer.{CloseAnswer}
+use Rattle.group_endings.specs.Endings.{removedAt, removed}
+use Rattle.group_endings.specs.declared.endings.Closed.the-variants.{Done}
+use Rattle.group_endings.specs.declared.endings.CloseAnswer.{CloseAnswer}
 use Rattle.group_steps.specs.Births.{bornAt, registeredAt, registeredIn, landedAt, landedIn}
 use Rattle.group_steps.specs.Attempts.{handedAt, poppedAt, poppedIn, settledAt, completedAt, completedIn, renewedAt, retriedAt, retriedIn}
 use Rattle.group_stages.specs.Stages.{movedAt, admittedAt, admittedIn, admittedAtWithout, admittedInWithout, endedAt, endedIn, stoppedAt, cancelledAt, cancelledIn}

@@ -19,18 +19,18 @@ use Rattle.cleanup_queue.specs.Answers.{openedSays}
 use Rattle.cleanup_queue.proofs.Numbers.{due-if}
 use Rattle.cleanup_queue.specs.Orders.{due, firstDue}
 use Rattle.group_record.specs.Record.{queueAt}
-use Rattle.group_record.specs.Questions.{drained}
-use Rattle.group_record.specs.Scan.{firstYes, someYes}
+use Rattle.group_asking.specs.Questions.{drained}
+use Rattle.group_asking.specs.Scan.{firstYes, someYes}
 use Rattle.group_check.specs.WellFormed.{lastBase, ids, wellGrouped}
 use Rattle.group_check.specs.Ids.{spotAt, spotOf, gotAt, got}
 use Rattle.group_record.specs.declared.record.Groups.{Groups}
 use Rattle.group_check.specs.declared.ids.Spot.{Spot}
-use Rattle.group_record.specs.declared.questions.Question.the-variants.{Free, Holds, Undrained}
+use Rattle.group_asking.specs.declared.questions.Question.the-variants.{Free, Holds, Undrained}
 use Rattle.group_lives.specs.Openings.{newOf, unsealed, roomAt, addedAt, added, addedScopeBy, addedScope, addedQueue, addedIteratorBy, addedIterator}
-use Rattle.group_lives.specs.Endings.{removedAt, removed, sealedBy, sealedIn}
+use Rattle.group_endings.specs.Endings.{removedAt, removed, sealedBy, sealedIn}
 use Rattle.group_lives.specs.declared.openings.NewAnswer.{NewAnswer}
 use Rattle.group_lives.specs.declared.openings.AddAnswer.{AddAnswer}
-use Rattle.group_lives.specs.declared.endings.CloseAnswer.{CloseAnswer}
+use Rattle.group_endings.specs.declared.endings.CloseAnswer.{CloseAnswer}
 use Rattle.cleanup_groups.specs.Answers.{addedSays, closedSays, gotSays}
 use Rattle.cleanup_groups.specs.Orders.{newOrder, openOrder, idOrder, undrainedAt, closeOrder, sealOrder}
 

@@ -18,13 +18,13 @@ use Rattle.cleanup_queue.specs.Answers.{registeredSays, poppedSays, completedSa
 use Rattle.cleanup_queue.specs.Orders.{Due, firstDue, registerOrder, landOrder, popOrder, completeOrder, retryOrder, brokenOnly}
 use Rattle.cleanup_queue.proofs.Numbers as queue
 use Rattle.group_record.specs.Record.{queueAt}
-use Rattle.group_record.specs.Scan.{firstYes, someYes}
+use Rattle.group_asking.specs.Scan.{firstYes, someYes}
 use Rattle.group_check.specs.WellFormed.{wellGrouped}
 use Rattle.group_check.specs.Ids.{spotAt, spotOf, gotAt, got}
 use Rattle.group_record.specs.declared.record.Groups.{Groups}
 use Rattle.group_check.specs.declared.ids.Spot.{Spot}
 use Rattle.group_check.specs.declared.ids.GetAnswer.{GetAnswer}
-use Rattle.group_record.specs.declared.questions.Question.the-variants.{Holds}
+use Rattle.group_asking.specs.declared.questions.Question.the-variants.{Holds}
 use Rattle.group_questions.specs.ById.{toldBy, domainBy, domainIn, negation, isCancelledIn, acceptsIn}
 use Rattle.group_survey.specs.Whole.{toldOf, retriesAll, lenOf}
 use Rattle.group_survey.specs.declared.whole.LenTold.{LenTold}

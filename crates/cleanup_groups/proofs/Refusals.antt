@@ -10,7 +10,7 @@ use Rattle.queue_record.specs.declared.record.Ticket.{Ticket}
 use Rattle.queue_questions.specs.Questions.{matches}
 use Rattle.queue_questions.specs.declared.questions.Told.{Told}
 use Rattle.queue_stages.specs.declared.stages.Cancelled.{Cancelled}
-use Rattle.queue_steps.specs.declared.births.Registered.{Registered}
+use Rattle.queue_births.specs.declared.births.Registered.{Registered}
 use Rattle.queue_steps.specs.declared.attempts.Popped.{Popped}
 use Rattle.queue_steps.specs.declared.attempts.Completed.{Completed}
 use Rattle.queue_steps.specs.declared.attempts.Retried.{Retried}
@@ -20,11 +20,11 @@ use Rattle.group_check.specs.Ids.{spotOf}
 use Rattle.group_record.specs.declared.record.Place.{Place}
 use Rattle.group_record.specs.declared.record.Groups.{Groups}
 use Rattle.group_lives.specs.Openings.{addedScope, addedIterator}
-use Rattle.group_lives.specs.Endings.{removed, sealedIn}
+use Rattle.group_endings.specs.Endings.{removed, sealedIn}
 use Rattle.group_lives.specs.declared.openings.Added.{Added}
 use Rattle.group_lives.specs.declared.openings.AddAnswer.{AddAnswer}
-use Rattle.group_lives.specs.declared.endings.Closed.{Closed}
-use Rattle.group_lives.specs.declared.endings.CloseAnswer.{CloseAnswer}
+use Rattle.group_endings.specs.declared.endings.Closed.{Closed}
+use Rattle.group_endings.specs.declared.endings.CloseAnswer.{CloseAnswer}
 use Rattle.group_steps.specs.Births.{registeredAt, registeredIn, landedAt, landedIn}
 use Rattle.group_steps.specs.Attempts.{poppedAt, poppedIn, completedAt, completedIn, retriedAt, retriedIn}
 use Rattle.group_stages.specs.Stages.{admittedAt, admittedIn, admittedAtWithout, admittedInWithout, endedAt, endedIn, cancelledAt, cancelledIn}

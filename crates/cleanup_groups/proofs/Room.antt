@@ -17,10 +17,10 @@ use Rattle.queue_record.specs.declared.search.Found.{Found}
 use Rattle.queue_record.specs.declared.search.Found.the-variants.{At, Missing}
 use Rattle.queue_questions.specs.declared.questions.Told.the-variants.{Yes}
 use Rattle.group_record.specs.Record.{placeAt}
-use Rattle.group_record.specs.Scan.{firstYes, someYes}
+use Rattle.group_asking.specs.Scan.{firstYes, someYes}
 use Rattle.group_check.specs.WellFormed.{ids, wellGrouped}
 use Rattle.group_record.specs.declared.record.Groups.{Groups}
-use Rattle.group_record.specs.declared.questions.Question.the-variants.{Free, Live}
+use Rattle.group_asking.specs.declared.questions.Question.the-variants.{Free, Live}
 use Rattle.group_check.specs.declared.ids.Spot.{Spot}
 use Rattle.group_survey.specs.Whole.{roomFor, canAddOf, isEmptyOf}
 use Rattle.group_lives.specs.Openings.{unsealed, nextDomain, roomAt, roomOf, addedAt, addedScopeBy, addedScope, addedQueue, addedIteratorBy, addedIterator}

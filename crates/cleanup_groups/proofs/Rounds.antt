@@ -15,7 +15,7 @@ use Rattle.queue_questions.specs.declared.questions.Told.{Told}
 use Rattle.queue_questions.specs.declared.questions.Told.the-variants.{Yes}
 use Rattle.cleanup_queue.proofs.Upstream.{told-retries, retry-renews}
 use Rattle.group_record.specs.Record.{queueAt}
-use Rattle.group_record.specs.Questions.{stuck}
+use Rattle.group_asking.specs.Questions.{stuck}
 use Rattle.group_check.specs.WellFormed.{wellGrouped}
 use Rattle.group_record.specs.declared.record.Place.{Place}
 use Rattle.group_record.specs.declared.record.Groups.{Groups}

@@ -23,12 +23,12 @@ use Rattle.group_survey.specs.Whole.{toldOf, retriesAll, lenOf}
 use Rattle.group_survey.specs.declared.whole.LenTold.{LenTold}
 use Rattle.group_questions.specs.ById.{domainIn}
 use Rattle.group_lives.specs.Openings.{newOf, addedScope, addedIterator}
-use Rattle.group_lives.specs.Endings.{removed, sealedIn}
+use Rattle.group_endings.specs.Endings.{removed, sealedIn}
 use Rattle.group_lives.specs.declared.openings.NewAnswer.{NewAnswer}
 use Rattle.group_lives.specs.declared.openings.Added.{Added}
 use Rattle.group_lives.specs.declared.openings.AddAnswer.{AddAnswer}
-use Rattle.group_lives.specs.declared.endings.Closed.{Closed}
-use Rattle.group_lives.specs.declared.endings.CloseAnswer.{CloseAnswer}
+use Rattle.group_endings.specs.declared.endings.Closed.{Closed}
+use Rattle.group_endings.specs.declared.endings.CloseAnswer.{CloseAnswer}
 use Rattle.group_rounds.specs.Rounds.{allRetried, roundDone, retriedAll}
 use Rattle.group_rounds.specs.declared.rounds.RetryAllAnswer.{RetryAllAnswer}
 use Rattle.cleanup_groups.specs.Answers.{addedSays, closedSays, lenSays, gotSays}

@@ -13,13 +13,13 @@ use Rattle.queue_record.specs.Newest.{isThere}
 use Rattle.queue_record.specs.WellFormed.{wellFormed}
 use Rattle.group_record.specs.Record.{nowhere, placeAt, queueAt}
 use Rattle.group_record.specs.Blank.{isBlank}
-use Rattle.group_record.specs.Questions.{belongsTo, asksLive, asksFree, asksOf}
-use Rattle.group_record.specs.Scan.{firstFrom, someYes}
+use Rattle.group_asking.specs.Questions.{belongsTo, asksLive, asksFree, asksOf}
+use Rattle.group_asking.specs.Scan.{firstFrom, someYes}
 use Rattle.group_check.specs.WellFormed.{clashes, distinctIds, queuesFit, freeFits, sealedFits, wellGrouped}
 use Rattle.group_record.specs.declared.record.Place.{Place}
 use Rattle.group_record.specs.declared.record.Groups.{Groups}
-use Rattle.group_record.specs.declared.questions.Question.{Question}
-use Rattle.group_record.specs.declared.questions.Question.the-variants.{Littered, Live, Holds, PastNext, Foreign}
+use Rattle.group_asking.specs.declared.questions.Question.{Question}
+use Rattle.group_asking.specs.declared.questions.Question.the-variants.{Littered, Live, Holds, PastNext, Foreign}
 use Rattle.group_check.proofs.Fit.{Fit, fit, fits}
 use Rattle.cleanup_groups.specs.Promises.{LiveAt, idAt, Sound}
 use Rattle.cleanup_groups.proofs.Every.{none-each, each-none}

@@ -20,7 +20,7 @@ use Rattle.queue_questions.specs.declared.questions.Told.the-variants.{Yes}
 use Rattle.cleanup_queue.proofs.Upstream.{retry-leaves, call-keeps-domain}
 use Rattle.cleanup_queue.specs.Runs as queue
 use Rattle.group_record.specs.Record.{placeAt, queueAt, livePlace, emptyOf, opening, sealing}
-use Rattle.group_record.specs.Questions.{finishes}
+use Rattle.group_asking.specs.Questions.{finishes}
 use Rattle.group_check.specs.WellFormed.{lastBase}
 use Rattle.group_check.specs.declared.ids.Spot.{Spot}
 use Rattle.group_record.specs.declared.record.Place.{Place}

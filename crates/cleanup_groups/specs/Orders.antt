@@ -10,11 +10,11 @@ use Rattle.queue_record.specs.declared.search.Found.{Found}
 use Rattle.queue_record.specs.declared.search.Found.the-variants.{At, Missing}
 use Rattle.cleanup_queue.specs.Orders.{Due, due}
 use Rattle.group_record.specs.Record.{queueAt}
-use Rattle.group_record.specs.Questions.{drained}
-use Rattle.group_record.specs.Scan.{firstYes, someYes}
+use Rattle.group_asking.specs.Questions.{drained}
+use Rattle.group_asking.specs.Scan.{firstYes, someYes}
 use Rattle.group_check.specs.WellFormed.{lastBase, ids, wellGrouped}
 use Rattle.group_record.specs.declared.record.Groups.{Groups}
-use Rattle.group_record.specs.declared.questions.Question.the-variants.{Free, Holds, Undrained}
+use Rattle.group_asking.specs.declared.questions.Question.the-variants.{Free, Holds, Undrained}
 
 -- a new record 19
 abbrev pub newOrder : ℕ → List Due

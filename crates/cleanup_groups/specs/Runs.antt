@@ -4,7 +4,7 @@ use mathlib.Core.List.{List, [], _∷_}
 use Rattle.queue_record.specs.declared.record.Ticket.{Ticket}
 use Rattle.group_record.specs.declared.record.Groups.{Groups}
 use Rattle.group_lives.specs.Openings.{addedScope, addedIterator}
-use Rattle.group_lives.specs.Endings.{removed, sealedIn}
+use Rattle.group_endings.specs.Endings.{removed, sealedIn}
 use Rattle.group_steps.specs.Births.{registeredIn, landedIn}
 use Rattle.group_steps.specs.Attempts.{poppedIn, completedIn, retriedIn}
 use Rattle.group_stages.specs.Stages.{admittedIn, admittedInWithout, endedIn, cancelledIn}

@@ -21,9 +21,9 @@ use Rattle.queue_record.specs.declared.record.Ticket.{Ticket}
 use Rattle.queue_record.specs.declared.record.Selection.{Selection}
 use Rattle.queue_record.specs.declared.record.Selection.the-variants.{Free, Of}
 use Rattle.queue_record.specs.declared.record.Queue.{Queue}
-use Rattle.queue_steps.specs.Births.{refusedBirth, grown, born, registered, landed}
+use Rattle.queue_births.specs.Births.{refusedBirth, grown, born, registered, landed}
 use Rattle.queue_steps.specs.Attempts.{noMore, slot, refusedPop, nothing, handed, freshTicket, freshAt, poppedBy, popped, refusedComplete, isOut, keepsOnDone, answered, completed, refusedRetry, retryAllowed, again, retriedBy, retried}
-use Rattle.queue_steps.specs.declared.births.RegisterAnswer.{RegisterAnswer}
+use Rattle.queue_births.specs.declared.births.RegisterAnswer.{RegisterAnswer}
 use Rattle.queue_steps.specs.declared.attempts.Popped.the-variants.{Work}
 use Rattle.queue_steps.specs.declared.attempts.PopAnswer.{PopAnswer}
 use Rattle.queue_steps.specs.declared.attempts.Completed.{Completed}

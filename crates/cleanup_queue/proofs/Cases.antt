@@ -19,9 +19,9 @@ use Rattle.queue_record.specs.declared.record.Selection.{Selection}
 use Rattle.queue_record.specs.declared.record.Selection.the-variants.{Free, Of}
 use Rattle.queue_record.specs.declared.record.Queue.{Queue}
 use Rattle.queue_record.proofs.Opened.{scope-well-formed}
-use Rattle.queue_steps.specs.Births.{born, grown, registered, landed}
+use Rattle.queue_births.specs.Births.{born, grown, registered, landed}
 use Rattle.queue_steps.specs.Attempts.{popped, completed, retried}
-use Rattle.queue_steps.specs.declared.births.RegisterAnswer.{RegisterAnswer}
+use Rattle.queue_births.specs.declared.births.RegisterAnswer.{RegisterAnswer}
 use Rattle.queue_stages.specs.Stages.{admitted}
 use Rattle.cleanup_queue.specs.Answers.{Said, says, registeredSays, poppedSays, completedSays, retriedSays}
 use Rattle.cleanup_queue.specs.Marked.{fresh, two, out, failed, outAgain, last, lastOut, spent, registers, table, defined, written}

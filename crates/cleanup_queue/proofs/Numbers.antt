@@ -11,10 +11,10 @@ use Rattle.queue_record.specs.Waiting.{waiting}
 use Rattle.queue_record.specs.Openings.{iteratorOpened}
 use Rattle.queue_record.specs.declared.record.Ticket.{Ticket}
 use Rattle.queue_record.specs.declared.record.Queue.{Queue}
-use Rattle.queue_steps.specs.Births.{registered, landed}
+use Rattle.queue_births.specs.Births.{registered, landed}
 use Rattle.queue_steps.specs.Attempts.{popped, completed, retryAllowed, retried}
-use Rattle.queue_steps.specs.declared.births.Registered.{Registered}
-use Rattle.queue_steps.specs.declared.births.RegisterAnswer.{RegisterAnswer}
+use Rattle.queue_births.specs.declared.births.Registered.{Registered}
+use Rattle.queue_births.specs.declared.births.RegisterAnswer.{RegisterAnswer}
 use Rattle.queue_steps.specs.declared.attempts.Popped.{Popped}
 use Rattle.queue_steps.specs.declared.attempts.PopAnswer.{PopAnswer}
 use Rattle.queue_steps.specs.declared.attempts.Completed.{Completed}

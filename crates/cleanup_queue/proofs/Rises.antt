@@ -14,7 +14,7 @@ use Rattle.queue_record.specs.declared.record.Selection.the-variants.{Free, Of}
 use Rattle.queue_record.specs.declared.record.Queue.{Queue}
 use Rattle.queue_record.proofs.Fit.{selected-before, failed-not-issued}
 use Rattle.queue_steps.specs.Attempts.{renewed, retried, popped}
-use Rattle.queue_steps.specs.declared.births.RegisterAnswer.{RegisterAnswer}
+use Rattle.queue_births.specs.declared.births.RegisterAnswer.{RegisterAnswer}
 use Rattle.queue_steps.specs.declared.attempts.Popped.the-variants.{Work}
 use Rattle.queue_steps.specs.declared.attempts.PopAnswer.{PopAnswer}
 use Rattle.queue_steps.specs.declared.attempts.CompleteAnswer.{CompleteAnswer}

@@ -31,10 +31,10 @@ use Rattle.queue_record.specs.declared.record.Queue.{Queue}
 use Rattle.queue_record.proofs.Zeros.{full-below}
 use Rattle.queue_record.proofs.Fit.{fit, free-no-marks, issued-not-failed, failed-not-issued, issued-empty}
 use Rattle.queue_record.proofs.Waiting.{by-first, none-occupied}
-use Rattle.queue_steps.specs.Births.{registered, landed}
+use Rattle.queue_births.specs.Births.{registered, landed}
 use Rattle.queue_steps.specs.Attempts.{slot, issuedTo, freshTicket, popped, sameTicket, selects, isOut, keepsOnDone, refusedComplete, completed, retryAllowed, renewed, retriedBy, retried}
-use Rattle.queue_steps.specs.declared.births.Registered.the-variants.{Token}
-use Rattle.queue_steps.specs.declared.births.RegisterAnswer.{RegisterAnswer}
+use Rattle.queue_births.specs.declared.births.Registered.the-variants.{Token}
+use Rattle.queue_births.specs.declared.births.RegisterAnswer.{RegisterAnswer}
 use Rattle.queue_steps.specs.declared.attempts.Popped.the-variants.{Work}
 use Rattle.queue_steps.specs.declared.attempts.PopAnswer.{PopAnswer}
 use Rattle.queue_steps.specs.declared.attempts.Completed.the-variants.{Settled}

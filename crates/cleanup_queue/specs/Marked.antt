@@ -4,7 +4,7 @@ use mathlib.Core.List.{List, [], _∷_}
 use Rattle.queue_record.specs.Openings.{scopeOf, iteratorOpened}
 use Rattle.queue_record.specs.declared.record.Ticket.{Ticket}
 use Rattle.queue_record.specs.declared.record.Queue.{Queue}
-use Rattle.queue_steps.specs.Births.{registered, landed}
+use Rattle.queue_births.specs.Births.{registered, landed}
 use Rattle.queue_steps.specs.Attempts.{popped, completed, retried}
 use Rattle.queue_questions.specs.Questions.{matches}
 use Rattle.queue_stages.specs.Stages.{admitted}

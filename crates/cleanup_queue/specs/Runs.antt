@@ -4,10 +4,10 @@ use mathlib.Core.Bool.{Bool}
 use mathlib.Core.List.{List, [], _∷_, _++_}
 use Rattle.queue_record.specs.declared.record.Ticket.{Ticket}
 use Rattle.queue_record.specs.declared.record.Queue.{Queue}
-use Rattle.queue_steps.specs.Births.{registered, landed}
+use Rattle.queue_births.specs.Births.{registered, landed}
 use Rattle.queue_steps.specs.Attempts.{popped, completed, retried}
-use Rattle.queue_steps.specs.declared.births.Registered.{Registered}
-use Rattle.queue_steps.specs.declared.births.Registered.the-variants.{Token}
+use Rattle.queue_births.specs.declared.births.Registered.{Registered}
+use Rattle.queue_births.specs.declared.births.Registered.the-variants.{Token}
 use Rattle.queue_steps.specs.declared.attempts.Popped.{Popped}
 use Rattle.queue_steps.specs.declared.attempts.Popped.the-variants.{Work, Nothing, Refused}
 use Rattle.queue_stages.specs.Stages.{admitted, ended, cancelledBy}

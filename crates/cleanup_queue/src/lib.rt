@@ -1,4 +1,8 @@
 // The public face of a cleanup queue: the record, its check, the openings and the calls. No other call is public.
+pub use queue_births::RegisterAnswer;
+pub use queue_births::Registered;
+pub use queue_births::land;
+pub use queue_births::register;
 pub use queue_questions::DomainTold;
 pub use queue_questions::Told;
 pub use queue_questions::can_finish;
@@ -30,13 +34,9 @@ pub use queue_steps::CompleteAnswer;
 pub use queue_steps::Completed;
 pub use queue_steps::PopAnswer;
 pub use queue_steps::Popped;
-pub use queue_steps::RegisterAnswer;
-pub use queue_steps::Registered;
 pub use queue_steps::Retried;
 pub use queue_steps::RetryAnswer;
 pub use queue_steps::complete;
-pub use queue_steps::land;
 pub use queue_steps::pop;
-pub use queue_steps::register;
 pub use queue_steps::retry;
 pub use stage::Phase;

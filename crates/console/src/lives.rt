@@ -36,9 +36,9 @@ fn add(g: Groups, call: Call, list: &[u64]) -> Grouped {
 
 fn close(g: Groups, call: Call) -> Grouped {
     let closed = if call.number == 63 {
-        group_lives::remove(g, call.a)
+        group_endings::remove(g, call.a)
     } else {
-        group_lives::seal(g)
+        group_endings::seal(g)
     };
     let answer = closed.answer;
     let after = closed.groups;

@@ -11,7 +11,7 @@ use cleanup_queue::Kind;
 use cleanup_queue::Queue;
 use cleanup_queue::Ticket;
 use log_calls::RegisterRecorded;
-use log_calls::StageRecorded;
+use log_stages::StageRecorded;
 
 fn born(a: RegisterRecorded) -> Left {
     let answer = a.answer;
@@ -27,7 +27,7 @@ fn birth(q: Queue, used: u64, call: Call, log: &mut [u64]) -> Left {
 }
 
 fn pop(q: Queue, used: u64, log: &mut [u64]) -> Left {
-    let popped = log_calls::pop_recorded(q, log, used);
+    let popped = log_attempts::pop_recorded(q, log, used);
     let answer = popped.answer;
     let after = popped.queue;
     leaves(after, popped.used, answers::popped(answer))
@@ -39,14 +39,14 @@ fn complete(q: Queue, used: u64, domain: u64, call: Call, log: &mut [u64]) -> Le
         token: call.a,
         attempt: call.b,
     };
-    let completed = log_calls::complete_recorded(q, ticket, call.c, call.d, log, used);
+    let completed = log_attempts::complete_recorded(q, ticket, call.c, call.d, log, used);
     let answer = completed.answer;
     let after = completed.queue;
     leaves(after, completed.used, answers::completed(answer))
 }
 
 fn retry(q: Queue, used: u64, log: &mut [u64]) -> Left {
-    let retried = log_calls::retry_recorded(q, log, used);
+    let retried = log_attempts::retry_recorded(q, log, used);
     let answer = retried.answer;
     let after = retried.queue;
     leaves(after, retried.used, answers::retried(answer))
@@ -61,14 +61,14 @@ fn staged(a: StageRecorded) -> Left {
 fn stage(q: Queue, used: u64, call: Call, list: &[u64], log: &mut [u64]) -> Left {
     let number = call.number;
     match number {
-        35 => staged(log_calls::admit_recorded(q, list, log, used)),
-        36 => staged(log_calls::admit_without_recorded(q, log, used)),
-        _ => staged(log_calls::end_recorded(q, log, used)),
+        35 => staged(log_stages::admit_recorded(q, list, log, used)),
+        36 => staged(log_stages::admit_without_recorded(q, log, used)),
+        _ => staged(log_stages::end_recorded(q, log, used)),
     }
 }
 
 fn cancel(q: Queue, used: u64, log: &mut [u64]) -> Left {
-    let cancelled = log_calls::cancel_recorded(q, log, used);
+    let cancelled = log_stages::cancel_recorded(q, log, used);
     let answer = cancelled.answer;
     let after = cancelled.queue;
     leaves(after, cancelled.used, answers::cancelled(answer))

@@ -9,7 +9,7 @@ use Rattle.stage.proofs.Ways.{hit, miss}
 use Rattle.group_record.specs.Record.{nowhere}
 use Rattle.group_check.specs.Count.{liveCount}
 use Rattle.group_record.specs.declared.record.Place.{Place}
-use Rattle.group_record.proofs.Walk.{place-left, places-end}
+use Rattle.group_asking.proofs.Walk.{place-left, places-end}
 
 -- n of the places before i are live
 abbrev pub Counts : List Place → ℕ → ℕ → Type 0

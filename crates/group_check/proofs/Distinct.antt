@@ -8,7 +8,7 @@ use Rattle.stage.proofs.Ways.{pass, stop}
 use Rattle.group_record.specs.Record.{nowhere}
 use Rattle.group_check.specs.WellFormed.{clashes, distinctIds}
 use Rattle.group_record.specs.declared.record.Place.{Place}
-use Rattle.group_record.proofs.Walk.{place-left, places-end}
+use Rattle.group_asking.proofs.Walk.{place-left, places-end}
 
 module _ (ps : List Place) (i : ℕ) (l : length ps ≡ 16) where
   distinct-step : i < 16 → distinctIds (drop i ps) ≡ (not (clashes (getD ps i nowhere) (drop (i + 1) ps)) && distinctIds (drop (i + 1) ps))

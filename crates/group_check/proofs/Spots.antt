@@ -9,13 +9,13 @@ use Rattle.stage.specs.Choice.{if_then_else_}
 use Rattle.queue_record.specs.Refusals.{broken}
 use Rattle.queue_record.specs.declared.search.Found.{Found}
 use Rattle.queue_record.specs.declared.search.Found.the-variants.{At, Missing}
-use Rattle.group_record.specs.Scan.{firstFrom, firstYes}
+use Rattle.group_asking.specs.Scan.{firstFrom, firstYes}
 use Rattle.group_check.specs.WellFormed.{wellGrouped}
 use Rattle.group_check.specs.Ids.{spotAt, spotOf}
 use Rattle.group_record.specs.declared.record.Place.{Place}
 use Rattle.group_record.specs.declared.record.Groups.{Groups}
-use Rattle.group_record.specs.declared.questions.Question.{Question}
-use Rattle.group_record.specs.declared.questions.Question.the-variants.{Holds}
+use Rattle.group_asking.specs.declared.questions.Question.{Question}
+use Rattle.group_asking.specs.declared.questions.Question.the-variants.{Holds}
 use Rattle.group_check.specs.declared.ids.Spot.{Spot}
 
 found-below : (says : Place → Bool) (k : ℕ) (ps : List Place) (i : ℕ) → firstFrom says k ps ≡ At i → i < k + length ps

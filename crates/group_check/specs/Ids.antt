@@ -8,10 +8,10 @@ use Rattle.queue_record.specs.Refusals.{broken, noGroup}
 use Rattle.queue_record.specs.declared.search.Found.{Found}
 use Rattle.queue_record.specs.declared.search.Found.the-variants.{At, Missing}
 use Rattle.group_record.specs.Record.{queueAt}
-use Rattle.group_record.specs.Scan.{firstYes}
+use Rattle.group_asking.specs.Scan.{firstYes}
 use Rattle.group_check.specs.WellFormed.{wellGrouped}
 use Rattle.group_record.specs.declared.record.Groups.{Groups}
-use Rattle.group_record.specs.declared.questions.Question.the-variants.{Holds}
+use Rattle.group_asking.specs.declared.questions.Question.the-variants.{Holds}
 use Rattle.group_check.specs.declared.ids.Spot.{Spot}
 use Rattle.group_check.specs.declared.ids.Got.{Got}
 use Rattle.group_check.specs.declared.ids.Got.the-variants.{Group}

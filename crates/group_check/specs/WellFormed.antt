@@ -6,11 +6,11 @@ use lib.Dec.{leb}
 use Rattle.stage.specs.Choice.{implies}
 use Rattle.queue_record.specs.Newest.{isThere}
 use Rattle.queue_record.specs.WellFormed.{allTrue}
-use Rattle.group_record.specs.Questions.{asksOf}
-use Rattle.group_record.specs.Scan.{firstFrom, someYes}
+use Rattle.group_asking.specs.Questions.{asksOf}
+use Rattle.group_asking.specs.Scan.{firstFrom, someYes}
 use Rattle.group_record.specs.declared.record.Place.{Place}
 use Rattle.group_record.specs.declared.record.Groups.{Groups}
-use Rattle.group_record.specs.declared.questions.Question.the-variants.{Littered, Live, Holds, PastNext, Foreign}
+use Rattle.group_asking.specs.declared.questions.Question.the-variants.{Littered, Live, Holds, PastNext, Foreign}
 
 -- the largest base to which the id 65,535 can be added, with one number to spare
 abbrev pub lastBase : ℕ

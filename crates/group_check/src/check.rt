@@ -1,9 +1,9 @@
 // Whether a group record is well formed: one test for each clause.
+use group_asking::Question;
+use group_asking::some;
+use group_asking::some_from;
 use group_record::Groups;
 use group_record::Place;
-use group_record::Question;
-use group_record::some;
-use group_record::some_from;
 ghost use mathlib.Core.Path.{_≡_};
 ghost use lib.ListN.{drop};
 ghost use Rattle.group_check.specs.WellFormed.{clashes, distinctIds, sealedFits, wellGrouped};

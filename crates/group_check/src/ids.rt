@@ -1,8 +1,8 @@
 // A group by its id: where it is, and its queue.
 use crate::check::well_grouped;
+use group_asking::Question;
+use group_asking::first_where;
 use group_record::Groups;
-use group_record::Question;
-use group_record::first_where;
 use queue_record::Found;
 use queue_record::Queue;
 use queue_record::refusal::BROKEN;
@@ -12,7 +12,7 @@ ghost use mathlib.Core.Path.{_≡_};
 ghost use mathlib.Core.List.{[]};
 ghost use Prim.Native.Nat.{_<_};
 ghost use Rattle.group_record.specs.Record.{queueAt};
-ghost use Rattle.group_record.specs.Scan.{firstYes};
+ghost use Rattle.group_asking.specs.Scan.{firstYes};
 ghost use Rattle.group_check.specs.Ids.{spotOf, got};
 
 // The place that is live under an id, or why a call by this id is refused.

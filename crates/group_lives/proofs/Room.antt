@@ -15,10 +15,10 @@ use Rattle.queue_record.specs.declared.search.Found.the-variants.{At, Missing}
 use Rattle.queue_record.specs.declared.openings.Opened.{Opened}
 use Rattle.queue_record.specs.declared.openings.Opened.the-variants.{Open}
 use Rattle.group_record.specs.Record.{emptyOf}
-use Rattle.group_record.specs.Scan.{firstYes}
+use Rattle.group_asking.specs.Scan.{firstYes}
 use Rattle.group_check.specs.WellFormed.{ids, wellGrouped}
 use Rattle.group_record.specs.declared.record.Groups.{Groups}
-use Rattle.group_record.specs.declared.questions.Question.the-variants.{Free}
+use Rattle.group_asking.specs.declared.questions.Question.the-variants.{Free}
 use Rattle.group_check.specs.declared.ids.Spot.{Spot}
 use Rattle.group_check.proofs.Fit.{Fit, fit}
 use Rattle.group_check.proofs.Spots.{first-below}

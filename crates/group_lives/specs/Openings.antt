@@ -12,10 +12,10 @@ use Rattle.queue_record.specs.declared.record.Queue.{Queue}
 use Rattle.queue_record.specs.declared.openings.Opened.{Opened}
 use Rattle.queue_record.specs.declared.openings.Opened.the-variants.{Open}
 use Rattle.group_record.specs.Record.{emptyOf, opening}
-use Rattle.group_record.specs.Scan.{firstYes}
+use Rattle.group_asking.specs.Scan.{firstYes}
 use Rattle.group_check.specs.WellFormed.{lastBase, ids, wellGrouped}
 use Rattle.group_record.specs.declared.record.Groups.{Groups}
-use Rattle.group_record.specs.declared.questions.Question.the-variants.{Free}
+use Rattle.group_asking.specs.declared.questions.Question.the-variants.{Free}
 use Rattle.group_check.specs.declared.ids.Spot.{Spot}
 use Rattle.group_lives.specs.declared.openings.NewAnswer.{NewAnswer}
 use Rattle.group_lives.specs.declared.openings.Added.{Added}

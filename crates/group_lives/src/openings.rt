@@ -1,11 +1,11 @@
 // A new record, and groups opened in it.
+use group_asking::Question;
 use group_check::IDS;
 use group_check::LAST_BASE;
 use group_check::Spot;
 use group_check::lowest;
 use group_check::well_grouped;
 use group_record::Groups;
-use group_record::Question;
 use group_record::empty;
 use group_record::put_new;
 use queue_record::Found;

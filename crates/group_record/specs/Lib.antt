@@ -1,4 +1,2 @@
 pub mod Record
 pub mod Blank
-pub mod Questions
-pub mod Scan

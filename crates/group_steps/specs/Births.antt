@@ -1,8 +1,8 @@
 -- Register and land of a group: document 01, "Groups", "other calls check 1, 10, then as the queue; other groups stay"
 use Prim.Native.Nat.{ℕ}
-use Rattle.queue_steps.specs.Births.{registered, landed}
-use Rattle.queue_steps.specs.declared.births.Registered.{Registered}
-use Rattle.queue_steps.specs.declared.births.RegisterAnswer.{RegisterAnswer}
+use Rattle.queue_births.specs.Births.{registered, landed}
+use Rattle.queue_births.specs.declared.births.Registered.{Registered}
+use Rattle.queue_births.specs.declared.births.RegisterAnswer.{RegisterAnswer}
 use Rattle.group_record.specs.Record.{queueAt, withQueue}
 use Rattle.group_check.specs.Ids.{spotOf}
 use Rattle.group_record.specs.declared.record.Groups.{Groups}

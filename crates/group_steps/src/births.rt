@@ -4,7 +4,7 @@ use group_check::look_up;
 use group_check::queue_at;
 use group_record::Groups;
 use group_record::put_queue;
-use queue_steps::Registered;
+use queue_births::Registered;
 ghost use mathlib.Core.Path.{_≡_};
 ghost use Rattle.group_steps.specs.Births.{registeredIn, landedIn};
 
@@ -23,7 +23,7 @@ pub fn register(g: Groups, id: u64, number: u64) -> GroupRegisterAnswer
             groups: g,
         },
         Spot::At(at) => {
-            let step = queue_steps::register(queue_at(g, at), number);
+            let step = queue_births::register(queue_at(g, at), number);
             let answer = step.answer;
             let queue = step.queue;
             let groups = put_queue(g, at, queue);
@@ -45,7 +45,7 @@ pub fn land(g: Groups, id: u64, number: u64) -> GroupRegisterAnswer
             groups: g,
         },
         Spot::At(at) => {
-            let step = queue_steps::land(queue_at(g, at), number);
+            let step = queue_births::land(queue_at(g, at), number);
             let answer = step.answer;
             let queue = step.queue;
             let groups = put_queue(g, at, queue);

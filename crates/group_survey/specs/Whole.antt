@@ -8,11 +8,11 @@ use Rattle.stage.specs.Choice.{if_then_else_}
 use Rattle.queue_record.specs.Refusals.{broken}
 use Rattle.queue_questions.specs.Questions.{yesOrNo}
 use Rattle.queue_questions.specs.declared.questions.Told.{Told}
-use Rattle.group_record.specs.Scan.{someYes}
+use Rattle.group_asking.specs.Scan.{someYes}
 use Rattle.group_check.specs.Count.{liveCount}
 use Rattle.group_check.specs.WellFormed.{ids, wellGrouped}
 use Rattle.group_record.specs.declared.record.Groups.{Groups}
-use Rattle.group_record.specs.declared.questions.Question.the-variants.{Free, Live, Holds, Pending, Issued, Failed, Stuck, Unfinished, Undrained}
+use Rattle.group_asking.specs.declared.questions.Question.the-variants.{Free, Live, Holds, Pending, Issued, Failed, Stuck, Unfinished, Undrained}
 use Rattle.group_survey.specs.declared.whole.LenTold.{LenTold}
 
 -- a question put to a record: 1 if it is not well formed, else the answer

@@ -1,18 +1,18 @@
 // The yes-or-no calls of the whole record, and how many groups are live.
+use group_asking::Question;
+use group_asking::some;
+use group_asking::some_from;
 use group_check::IDS;
 use group_check::live_count;
 use group_check::well_grouped;
 use group_record::Groups;
-use group_record::Question;
-use group_record::some;
-use group_record::some_from;
 use queue_questions::Told;
 use queue_questions::say;
 use queue_record::refusal::BROKEN;
 ghost use mathlib.Core.Path.{_≡_};
 ghost use mathlib.Core.Bool.{not};
 ghost use mathlib.Core.List.{[]};
-ghost use Rattle.group_record.specs.Scan.{someYes};
+ghost use Rattle.group_asking.specs.Scan.{someYes};
 ghost use Rattle.group_survey.specs.Whole.{toldOf, containsTold, isEmptyOf, hasPendingOf, hasIssuedOf, hasFailedOf, canRetryAllOf, retriesAll, canFinishOf, canSealOf, roomFor, canAddOf, lenOf};
 
 // A question put to the record: 1 if it is not well formed, else whether some place says yes.

@@ -11,9 +11,9 @@ use Rattle.stage.proofs.Ways.{pass, and-left, and-right, clash}
 use Rattle.queue_record.specs.Refusals.{done, broken, logFull}
 use Rattle.queue_record.specs.WellFormed.{wellFormed}
 use Rattle.queue_record.specs.declared.record.Queue.{Queue}
-use Rattle.queue_steps.specs.Births.{registered, landed}
+use Rattle.queue_births.specs.Births.{registered, landed}
 use Rattle.queue_steps.specs.Attempts.{popped, completed, retried}
-use Rattle.queue_steps.specs.declared.births.Registered.{Registered}
+use Rattle.queue_births.specs.declared.births.Registered.{Registered}
 use Rattle.queue_steps.specs.declared.attempts.Popped.{Popped}
 use Rattle.queue_steps.specs.declared.attempts.Completed.{Completed}
 use Rattle.queue_steps.specs.declared.attempts.Retried.{Retried}
@@ -28,16 +28,16 @@ use Rattle.log_rows.specs.Rows.{rowOf}
 use Rattle.log_rows.specs.Appending.{appended}
 use Rattle.log_rows.specs.declared.Row.{Row}
 use Rattle.log_calls.specs.Births.{birthSaid, isBirth, birthRow, registerRecorded, registerLogged, landRecorded, landLogged}
-use Rattle.log_calls.specs.Attempts.{popSaid, isWork, popRow, popRecorded, popLogged, completeSaid, isSettledAnswer, completeRecorded, completeLogged, retrySaid, isRenewed, retryRow, retryRecorded, retryLogged}
-use Rattle.log_calls.specs.Stages.{moved, stageSaid, admitRecorded, admitLogged, endRecorded, endLogged, cancelSaid, cancelRecorded, cancelLogged}
+use Rattle.log_attempts.specs.Attempts.{popSaid, isWork, popRow, popRecorded, popLogged, completeSaid, isSettledAnswer, completeRecorded, completeLogged, retrySaid, isRenewed, retryRow, retryRecorded, retryLogged}
+use Rattle.log_stages.specs.Stages.{moved, stageSaid, admitRecorded, admitLogged, endRecorded, endLogged, cancelSaid, cancelRecorded, cancelLogged}
 use Rattle.log_calls.specs.declared.births.RegisterRecorded.{RegisterRecorded}
-use Rattle.log_calls.specs.declared.attempts.PopRecorded.{PopRecorded}
-use Rattle.log_calls.specs.declared.attempts.CompleteRecorded.{CompleteRecorded}
-use Rattle.log_calls.specs.declared.attempts.RetryRecorded.{RetryRecorded}
-use Rattle.log_calls.specs.declared.stages.StageRecorded.{StageRecorded}
-use Rattle.log_calls.specs.declared.stages.CancelRecorded.{CancelRecorded}
-use Rattle.log_reader.specs.Replay.{sameRow, birthFits, popFits, completeFits, rowTicket, retryFits, replayedBirth, replayedPop, replayedComplete, replayedRetry, replayedStage, replayed}
-use Rattle.log_reader.specs.declared.replay.Replayed.{Replayed}
+use Rattle.log_attempts.specs.declared.attempts.PopRecorded.{PopRecorded}
+use Rattle.log_attempts.specs.declared.attempts.CompleteRecorded.{CompleteRecorded}
+use Rattle.log_attempts.specs.declared.attempts.RetryRecorded.{RetryRecorded}
+use Rattle.log_stages.specs.declared.stages.StageRecorded.{StageRecorded}
+use Rattle.log_stages.specs.declared.stages.CancelRecorded.{CancelRecorded}
+use Rattle.log_replay.specs.Replay.{sameRow, birthFits, popFits, completeFits, rowTicket, retryFits, replayedBirth, replayedPop, replayedComplete, replayedRetry, replayedStage, replayed}
+use Rattle.log_replay.specs.declared.replay.Replayed.{Replayed}
 use Rattle.log_reader.proofs.ByKind.{Columns, columns, at0, at1, at2, at3, at4, at5, at6, at7, past7}
 use Rattle.log_reader.proofs.RowsKeep.{admit-moves, end-moves, cancel-moves}
 use Rattle.log_language.specs.Readings.{every}

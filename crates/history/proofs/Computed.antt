@@ -16,15 +16,15 @@ use Rattle.queue_record.specs.declared.record.Ticket.{Ticket}
 use Rattle.queue_record.specs.declared.record.Selection.{Selection}
 use Rattle.queue_record.specs.declared.record.Selection.the-variants.{Free, Of}
 use Rattle.queue_record.specs.declared.record.Queue.{Queue}
-use Rattle.queue_steps.specs.Births.{registered, landed}
+use Rattle.queue_births.specs.Births.{registered, landed}
 use Rattle.queue_steps.specs.Attempts.{popped, completed, retried}
 use Rattle.queue_stages.specs.Stages.{admitted, ended, cancelledBy}
 use Rattle.cleanup_queue.specs.Runs.{Call, register, land, pop, complete, retry, admit, end, cancel}
 use Rattle.log_rows.specs.Rows.{rows, written, flats}
 use Rattle.log_rows.specs.Appending.{rowsFit, hasRoom, appendedUsed, appended}
 use Rattle.log_calls.specs.Births.{registerRecorded, registerLogged, landRecorded, landLogged}
-use Rattle.log_calls.specs.Attempts.{popRecorded, popLogged, completeRecorded, completeLogged, retryRecorded, retryLogged}
-use Rattle.log_calls.specs.Stages.{admitRecorded, admitLogged, endRecorded, endLogged, cancelRecorded, cancelLogged}
+use Rattle.log_attempts.specs.Attempts.{popRecorded, popLogged, completeRecorded, completeLogged, retryRecorded, retryLogged}
+use Rattle.log_stages.specs.Stages.{admitRecorded, admitLogged, endRecorded, endLogged, cancelRecorded, cancelLogged}
 use Rattle.history.specs.Histories.{Bench, bench, called, numberOf, Start, History, opens, calls, Made, none, one, rowsOf, openedQueue}
 use Rattle.history.proofs.Exhibit.{lent, shown, ofEachKind}
 

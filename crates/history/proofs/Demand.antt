@@ -18,7 +18,7 @@ use Rattle.log_language.specs.Language.{Belongs}
 use Rattle.log_language.proofs.RowSteps.{State, opened, may, endState}
 use Rattle.log_language.proofs.Core.{one-more-may}
 use Rattle.log_language.proofs.Lists.{snoc-ind}
-use Rattle.log_reader.specs.Replay.{replayed}
+use Rattle.log_replay.specs.Replay.{replayed}
 use Rattle.log_reader.specs.Reader.{endOf, openedAs}
 use Rattle.log_reader.proofs.StageRows.{row-agrees}
 use Rattle.history.specs.Histories.{Bench, bench, called, Start, History, opens, calls, rowsOf, openedQueue, opening, Leaves}

@@ -25,7 +25,7 @@ use Rattle.log_rows.proofs.Space.{room-fits, room-few, written-length}
 use Rattle.log_language.specs.Language.{Belongs}
 use Rattle.log_language.proofs.RowSteps.{State, opened, may, leave, endState}
 use Rattle.log_language.proofs.Core.{empty-belongs, one-more-may, end-snoc}
-use Rattle.log_reader.specs.Replay.{replayed}
+use Rattle.log_replay.specs.Replay.{replayed}
 use Rattle.log_reader.specs.Reader.{endOf, openedAs}
 use Rattle.log_reader.proofs.StateOf.{stateOf}
 use Rattle.log_reader.proofs.StageRows.{row-agrees}

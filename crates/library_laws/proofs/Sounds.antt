@@ -5,9 +5,9 @@ use mathlib.Core.Bool.{true, false}
 use mathlib.Core.List.{List, [], _∷_}
 use Rattle.queue_record.specs.Openings.{scopeOf, iteratorOpened}
 use Rattle.queue_record.proofs.Opened.{scope-well-formed, scope-sized, opening-well-formed, opening-sized}
-use Rattle.queue_steps.specs.Births.{registered, landed}
+use Rattle.queue_births.specs.Births.{registered, landed}
 use Rattle.queue_steps.specs.Attempts.{popped, completed, retried}
-use Rattle.queue_steps.specs.declared.births.Registered.{Registered}
+use Rattle.queue_births.specs.declared.births.Registered.{Registered}
 use Rattle.queue_steps.specs.declared.attempts.Popped.{Popped}
 use Rattle.queue_steps.specs.declared.attempts.Completed.{Completed}
 use Rattle.queue_steps.specs.declared.attempts.Retried.{Retried}

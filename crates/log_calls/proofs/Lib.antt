@@ -1,4 +1,3 @@
 pub mod Kept
-pub mod Idle
 pub mod Untouched
 pub mod OtherWords

@@ -1,4 +1,2 @@
 pub mod Recording
 pub mod Births
-pub mod Attempts
-pub mod Stages

@@ -1,13 +1,7 @@
-pub mod Progress
-pub mod Said
 pub mod Pasting
 pub mod KitDigits
 pub mod Fields
 pub mod Reported
 pub mod Answered
-pub mod RowsStand
-pub mod RowsRead
-pub mod Openings
-pub mod Texts
 pub mod OneAnswer
 pub mod Responses

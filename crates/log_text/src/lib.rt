@@ -1,9 +1,6 @@
 // A log as text: the opening and the rows are read from it, and the reader's answer is written as two lines.
 mod answer;
 mod figures;
-mod opening;
 mod report;
-mod textread;
-mod textrows;
 
 pub use answer::respond;

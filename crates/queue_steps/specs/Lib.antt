@@ -1,2 +1,1 @@
-pub mod Births
 pub mod Attempts

@@ -1,6 +1,5 @@
-// The steps that carry undo numbers: register, land, pop, complete, retry.
+// The steps of an attempt: pop, complete, retry.
 mod attempts;
-mod births;
 
 pub use attempts::CompleteAnswer;
 pub use attempts::Completed;
@@ -14,7 +13,3 @@ pub use attempts::keeps_on_done;
 pub use attempts::may_retry;
 pub use attempts::pop;
 pub use attempts::retry;
-pub use births::RegisterAnswer;
-pub use births::Registered;
-pub use births::land;
-pub use births::register;

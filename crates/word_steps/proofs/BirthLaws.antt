@@ -13,8 +13,8 @@ use Rattle.queue_record.specs.Refusals.{done, broken}
 use Rattle.queue_record.specs.Record.{withPhase}
 use Rattle.queue_record.specs.WellFormed.{wellFormed}
 use Rattle.queue_record.specs.declared.record.Queue.{Queue}
-use Rattle.queue_steps.specs.Births.{grown, registered, landed}
-use Rattle.queue_steps.specs.declared.births.RegisterAnswer.{RegisterAnswer}
+use Rattle.queue_births.specs.Births.{grown, registered, landed}
+use Rattle.queue_births.specs.declared.births.RegisterAnswer.{RegisterAnswer}
 use Rattle.queue_words.specs.Words.{word, queueOf, isSound}
 use Rattle.queue_words.specs.Exported.{exported, answerOf, refusedOn, onRecord, bornExported, registerOn, landOn}
 use Rattle.queue_words.proofs.Setters.{Held, hold-slot, hold-count, hold-phase}

@@ -9,8 +9,8 @@ use Rattle.stage.specs.Phases.{next, isPending, phaseNumber, phaseAt}
 use Rattle.stage.specs.declared.phases.Event.the-variants.{Land}
 use Rattle.queue_record.specs.Refusals.{done, badNumber, noSlot, notPending}
 use Rattle.queue_record.specs.declared.record.Queue.{Queue}
-use Rattle.queue_steps.specs.Births.{refusedBirth, born}
-use Rattle.queue_steps.specs.declared.births.RegisterAnswer.{RegisterAnswer}
+use Rattle.queue_births.specs.Births.{refusedBirth, born}
+use Rattle.queue_births.specs.declared.births.RegisterAnswer.{RegisterAnswer}
 use Rattle.queue_words.specs.Words.{word}
 
 unfoldable pub registerRefusal : Queue → ℕ → ℕ

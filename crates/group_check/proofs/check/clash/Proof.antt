@@ -4,9 +4,9 @@ use borrow.Author.Tests.{not-true, not-false}
 use Rattle.stage.proofs.Ways.{pass, stop}
 use mathlib.Core.List.{[]}
 use lib.ListN.{drop}
-use Rattle.group_record.specs.Questions.{asksOf}
-use Rattle.group_record.specs.declared.questions.Question.the-variants.{Holds}
-use Rattle.group_record.proofs.Walk.{there-from}
+use Rattle.group_asking.specs.Questions.{asksOf}
+use Rattle.group_asking.specs.declared.questions.Question.the-variants.{Holds}
+use Rattle.group_asking.proofs.Walk.{there-from}
 use borrow.Author.Needs.{needs}
 use Rattle.group_check.proofs.check.clash.Statement.{statement}
 use Rattle.group_check.proofs.check.clash.Tie as tie

@@ -3,8 +3,8 @@ use mathlib.Core.Path.{sym, ap, _∙_}
 use mathlib.Core.Bool.{Bool, not}
 use borrow.Author.Tests.{not-true, not-false}
 use Rattle.stage.specs.Choice.{implies}
-use Rattle.group_record.specs.Scan.{someYes}
-use Rattle.group_record.specs.declared.questions.Question.the-variants.{Live}
+use Rattle.group_asking.specs.Scan.{someYes}
+use Rattle.group_asking.specs.declared.questions.Question.the-variants.{Live}
 use mathlib.Core.List.{[]}
 use borrow.Author.Needs.{needs}
 use Rattle.group_check.proofs.check.sealed_fits.Statement.{statement}

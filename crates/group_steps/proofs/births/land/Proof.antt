@@ -2,8 +2,8 @@
 use mathlib.Core.Path.{_≡_, sym, ap, _∙_}
 use lib.ListN.{length, length-map}
 use Rattle.queue_record.specs.declared.record.Queue.{Queue}
-use Rattle.queue_steps.specs.Births.{landed}
-use Rattle.queue_steps.specs.declared.births.Registered.{Registered}
+use Rattle.queue_births.specs.Births.{landed}
+use Rattle.queue_births.specs.declared.births.Registered.{Registered}
 use Rattle.group_check.proofs.Spots.{spot-below}
 use Rattle.group_record.specs.declared.record.Groups.{Groups}
 use Rattle.group_steps.specs.Births.{bornAt, landedAt, landedIn}

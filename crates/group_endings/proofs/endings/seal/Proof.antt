@@ -1,0 +1,29 @@
+-- Refused with 1 or 12, with 13, or all dropped
+use mathlib.Core.Path.{sym, ap, _∙_}
+use Rattle.stage.proofs.Ways.{hit, miss}
+use Rattle.group_record.specs.declared.record.Groups.{Groups}
+use Rattle.group_endings.specs.Endings.{sealedBy, sealedIn}
+use Rattle.group_endings.specs.declared.endings.Closed.{Closed}
+use Rattle.group_endings.specs.declared.endings.CloseAnswer.{CloseAnswer}
+use borrow.Author.Needs.{needs}
+use Rattle.group_endings.proofs.endings.seal.Statement.{statement}
+use Rattle.group_endings.proofs.endings.seal.Tie as tie
+
+abbrev answered : Closed → Groups → CloseAnswer
+answered a g = record { answer = a; groups = g }
+
+pub seal-spec : {M : Type 1} → statement M
+unfolding sealedIn
+seal-spec =
+    tie.close
+    (tie.spec
+    (λ c κs. search needs)
+    (λ c. search needs)
+    (λ c κs. search needs)
+    (λ c. search needs)
+    (λ c κs. search needs)
+    (λ c κs. search needs)
+    (λ c. (c .close-refused2 .ensures) ∙ sym (ap (sealedBy (c .before .before .before .before .before .before .args .g)) (sym (c .before .before .before .before .before .is-unsealed .ensures) ∙ (c .before .before .before .enum-told .given .1)) ∙ hit _ (sym (c .before .before .some .ensures) ∙ (c .before .if1 .taken))))
+    (λ c κs. search needs)
+    (λ c. (c .close-refused .ensures) ∙ sym (ap (sealedBy (c .before .before .before .before .before .args .g)) (sym (c .before .before .before .before .is-unsealed .ensures) ∙ (c .before .before .gate .given .1))))
+    (λ c. ap (answered _) (c .sealed-of .ensures) ∙ sym (ap (sealedBy (c .before .before .before .before .before .before .args .g)) (sym (c .before .before .before .before .before .is-unsealed .ensures) ∙ (c .before .before .before .enum-told .given .1)) ∙ miss _ (sym (c .before .before .some .ensures) ∙ (c .before .if1 .left)))))

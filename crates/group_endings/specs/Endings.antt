@@ -1,0 +1,43 @@
+-- Closing and sealing: document 01, "Groups", "closing a group needs it drained", "sealing needs all live ones drained"
+use Prim.Native.Nat.{ℕ}
+use mathlib.Core.Bool.{not}
+use mathlib.Core.List.{[]}
+use Rattle.stage.specs.Choice.{if_then_else_}
+use Rattle.queue_record.specs.Refusals.{notDrained}
+use Rattle.queue_record.specs.declared.openings.Opened.{Opened}
+use Rattle.queue_record.specs.declared.openings.Opened.the-variants.{Open}
+use Rattle.group_record.specs.Record.{queueAt, freePlace, withPlace, sealing}
+use Rattle.group_asking.specs.Questions.{drained}
+use Rattle.group_asking.specs.Scan.{someYes}
+use Rattle.group_check.specs.Ids.{spotOf}
+use Rattle.group_record.specs.declared.record.Groups.{Groups}
+use Rattle.group_asking.specs.declared.questions.Question.the-variants.{Undrained}
+use Rattle.group_check.specs.declared.ids.Spot.{Spot}
+use Rattle.group_lives.specs.Openings.{unsealed}
+use Rattle.group_endings.specs.declared.endings.Closed.{Closed}
+use Rattle.group_endings.specs.declared.endings.Closed.the-variants.{Done}
+use Rattle.group_endings.specs.declared.endings.CloseAnswer.{CloseAnswer}
+
+abbrev pub refusedClose : Groups → ℕ → CloseAnswer
+refusedClose g refusal = record { answer = Closed.Refused refusal; groups = g }
+
+-- a freed place is used again: it is as it was before any opening
+abbrev pub removedAt : Groups → Spot → CloseAnswer
+removedAt g (Spot.Refused refusal) = refusedClose g refusal
+removedAt g (Spot.At i) =
+    if not (drained (queueAt g i)) then refusedClose g notDrained else
+    record { answer = Done; groups = withPlace g i freePlace }
+
+-- close checks 1, 10, 13
+unfoldable pub removed : Groups → ℕ → CloseAnswer
+removed g id = removedAt g (spotOf g id)
+
+abbrev pub sealedBy : Groups → Opened → CloseAnswer
+sealedBy g (Opened.Refused refusal) = refusedClose g refusal
+sealedBy g Open =
+    if someYes g Undrained [] then refusedClose g notDrained else
+    record { answer = Done; groups = sealing g }
+
+-- seal checks 1, 12, 13, then drops all
+unfoldable pub sealedIn : Groups → CloseAnswer
+sealedIn g = sealedBy g (unsealed g)

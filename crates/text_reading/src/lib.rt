@@ -1,0 +1,8 @@
+// A log's text read: the opening, then the rows.
+mod opening;
+mod textread;
+mod textrows;
+
+pub use opening::Opening;
+pub use textread::TextRead;
+pub use textread::read_text;
