@@ -27,7 +27,7 @@ blank-well-formed : wellFormed blank ≡ true
 unfolding blank
 blank-well-formed = scope-well-formed 0 0
 
-blank-sized : Sized blank
+pub blank-sized : Sized blank
 unfolding blank
 blank-sized = scope-sized 0 0
 
@@ -44,7 +44,7 @@ module _ (domain first : ℕ) (bindings : List ℕ) where
     selected = refl;
   })
 
-  iterator-sized : length bindings ≤ 16 → Sized (iteratorOf domain first bindings)
+  pub iterator-sized : length bindings ≤ 16 → Sized (iteratorOf domain first bindings)
   unfolding iteratorOf
   iterator-sized l = record { slots = refl; bindings = kept-length bindings l }
 
