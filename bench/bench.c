@@ -48,7 +48,7 @@ static void print_readings(struct timed *timed, const struct effort *effort) {
         make_good_log(words, sizes[i]);
         timed[i] = time_in_turn(readings, &reading, effort);
         snprintf(what, sizeof what, "good log of %zu rows", sizes[i]);
-        time_row(what, &timed[i], 1e3);
+        time_row(what, &timed[i], 1.0);
     }
 }
 
@@ -74,7 +74,7 @@ static void difference_cell(double full, double empty) {
     if (rest < empty / 20) {
         printf(" %12s", "(too small)");
     } else {
-        printf(" %12.1f", rest / 1e6);
+        printf(" %12.1f", rest / 1e3);
     }
 }
 
@@ -82,8 +82,8 @@ static void print_drivers(const struct drivers *drivers, const struct effort *ef
     make_good_log(words, DRIVER_ROWS);
     struct timed empty = time_drivers(drivers, words, 0, effort);
     struct timed full = time_drivers(drivers, words, DRIVER_ROWS, effort);
-    time_row("text of an opening alone", &empty, 1e6);
-    time_row("text of 800 rows", &full, 1e6);
+    time_row("text of an opening alone", &empty, 1e3);
+    time_row("text of 800 rows", &full, 1e3);
     printf("%-44s", "the 800 rows alone, by difference");
     difference_cell(full.least[LIBRARY], empty.least[LIBRARY]);
     difference_cell(full.least[PLAIN], empty.least[PLAIN]);
@@ -97,10 +97,10 @@ static void run_all(const struct drivers *drivers, const struct effort *effort) 
     head_row("calls: open, register, pop, complete", "ns a call");
     print_cycles("queue", queue_cycles, effort);
     print_cycles("recorded queue", recorded_cycles, effort);
-    head_row("the reader", "microseconds");
+    head_row("the reader", "ns a log");
     print_readings(timed, effort);
     print_growth(timed);
-    head_row("the driver as a process", "milliseconds");
+    head_row("the driver as a process", "microseconds");
     print_drivers(drivers, effort);
 }
 
