@@ -51,22 +51,22 @@ enum gulberzan_phase {
 /* Outcomes for complete. */
 enum gulberzan_outcome { GULBERZAN_OUTCOME_DONE = 0, GULBERZAN_OUTCOME_FAILED = 1 };
 
-/* Results: 0 is done, another number is the refusal. */
+/* Results: 0 is done, another number is the refusal. The numbers between, 10 to 13, are the groups', which have no calls here. */
 enum gulberzan_result {
     GULBERZAN_OK = 0,
-    GULBERZAN_BROKEN = 1,
-    GULBERZAN_BAD_NUMBER = 2,
-    GULBERZAN_NO_SLOT = 3,
-    GULBERZAN_NOT_PENDING = 4,
-    GULBERZAN_NO_ATTEMPT = 5,
-    GULBERZAN_NOT_OUT = 6,
-    GULBERZAN_KEPT_ON_DONE = 7,
-    GULBERZAN_NO_RETRY = 8,
-    GULBERZAN_HOLLOW = 9,
-    GULBERZAN_TOO_MANY_BINDINGS = 14,
-    GULBERZAN_BAD_OUTCOME = 15,
-    GULBERZAN_BAD_LOG = 16,
-    GULBERZAN_LOG_FULL = 17
+    GULBERZAN_BROKEN = 1,             /* no well-formed record, or the used rows don't fit the log */
+    GULBERZAN_BAD_NUMBER = 2,         /* the undo number is 0 */
+    GULBERZAN_NO_SLOT = 3,            /* 64 tokens are used up */
+    GULBERZAN_NOT_PENDING = 4,        /* land in a phase other than Pending and Stopping */
+    GULBERZAN_NO_ATTEMPT = 5,         /* attempt numbers are used up */
+    GULBERZAN_NOT_OUT = 6,            /* nothing is out, or not this ticket */
+    GULBERZAN_KEPT_ON_DONE = 7,       /* Done with a kept number other than 0 */
+    GULBERZAN_NO_RETRY = 8,           /* nothing failed, 0 was kept, or attempt numbers are used up */
+    GULBERZAN_HOLLOW = 9,             /* never given */
+    GULBERZAN_TOO_MANY_BINDINGS = 14, /* more than 16 */
+    GULBERZAN_BAD_OUTCOME = 15,       /* neither 0 nor 1 */
+    GULBERZAN_BAD_LOG = 16,           /* the reader: a row that can't be */
+    GULBERZAN_LOG_FULL = 17           /* no room for the row */
 };
 
 /* The first word of an answer; what the other four are stands at each call. */
@@ -89,13 +89,13 @@ enum gulberzan_answer {
     GULBERZAN_WORK_NUMBER = 4
 };
 
-/* Kinds of log rows; a row is kind, token, attempt, outcome, number. */
+/* Kinds of log rows; a row is kind, token, attempt, outcome, number, and 0 where its kind has no such column. */
 enum gulberzan_row {
-    GULBERZAN_ROW_REGISTER = 0,
-    GULBERZAN_ROW_LAND = 1,
-    GULBERZAN_ROW_POP = 2,
-    GULBERZAN_ROW_COMPLETE = 3,
-    GULBERZAN_ROW_RETRY = 4,
+    GULBERZAN_ROW_REGISTER = 0, /* token, number */
+    GULBERZAN_ROW_LAND = 1,     /* token, number */
+    GULBERZAN_ROW_POP = 2,      /* token, attempt */
+    GULBERZAN_ROW_COMPLETE = 3, /* token, attempt, outcome, kept number */
+    GULBERZAN_ROW_RETRY = 4,    /* token, new attempt */
     GULBERZAN_ROW_ADMIT = 5,
     GULBERZAN_ROW_END = 6,
     GULBERZAN_ROW_CANCEL = 7
@@ -120,7 +120,7 @@ uint64_t gulberzan_well_formed(const uint64_t queue[GULBERZAN_QUEUE_WORDS]);
 uint64_t gulberzan_register(uint64_t queue[GULBERZAN_QUEUE_WORDS], uint64_t number,
                             uint64_t answer[GULBERZAN_ANSWER_WORDS]);
 
-/* Appends an undo number and moves a pending stage; case 1: token. Refused 1, 2, 4, 3: the number comes back. */
+/* Appends an undo number and moves the stage, Pending to Idle or Stopping to Closed; case 1: token. Refused 1, 2, 4, 3: the number comes back. */
 uint64_t gulberzan_land(uint64_t queue[GULBERZAN_QUEUE_WORDS], uint64_t number,
                         uint64_t answer[GULBERZAN_ANSWER_WORDS]);
 
@@ -128,24 +128,25 @@ uint64_t gulberzan_land(uint64_t queue[GULBERZAN_QUEUE_WORDS], uint64_t number,
    case 2: domain, token, attempt, undo number. Refused 1, 5; 9 is never given. */
 uint64_t gulberzan_pop(uint64_t queue[GULBERZAN_QUEUE_WORDS], uint64_t answer[GULBERZAN_ANSWER_WORDS]);
 
-/* Settles what is out; ticket is domain, token, attempt; case 1. Refused 1, 15, 6, 7: the kept number comes back. */
+/* Settles what is out; ticket is domain, token, attempt; kept is 0 with Done, and with Failed the number to retry, or 0, after
+   which the queue hands out nothing any more; case 1. Refused 1, 15, 6, 7: the kept number comes back. */
 uint64_t gulberzan_complete(uint64_t queue[GULBERZAN_QUEUE_WORDS], const uint64_t ticket[GULBERZAN_TICKET_WORDS],
                             uint64_t outcome, uint64_t kept, uint64_t answer[GULBERZAN_ANSWER_WORDS]);
 
 /* Renews a failed ticket; case 1: domain, token, new attempt. Refused 1, 8. */
 uint64_t gulberzan_retry(uint64_t queue[GULBERZAN_QUEUE_WORDS], uint64_t answer[GULBERZAN_ANSWER_WORDS]);
 
-/* Moves an idle stage if the target's members are the bindings' members; yes if it is pending afterwards. Refused 1. */
+/* Moves an Idle stage to Pending if the target's members are the bindings' members; yes if it is pending afterwards. Refused 1. */
 uint64_t gulberzan_admit(uint64_t queue[GULBERZAN_QUEUE_WORDS], const uint64_t *target, size_t count,
                          uint64_t answer[GULBERZAN_ANSWER_WORDS]);
 
 /* Admit with no target, which moves nothing; yes if the stage is pending. Refused 1. */
 uint64_t gulberzan_admit_without(uint64_t queue[GULBERZAN_QUEUE_WORDS], uint64_t answer[GULBERZAN_ANSWER_WORDS]);
 
-/* Ends a pending stage; yes if it was pending before. Refused 1. */
+/* Ends a pending stage, Pending to Ended or Stopping to Closed; yes if it was pending before. Refused 1. */
 uint64_t gulberzan_end(uint64_t queue[GULBERZAN_QUEUE_WORDS], uint64_t answer[GULBERZAN_ANSWER_WORDS]);
 
-/* Cancels the stage; case 1. Refused 1. */
+/* Cancels the stage, Idle or Ended to Closed, Pending to Stopping; case 1. Refused 1. */
 uint64_t gulberzan_cancel(uint64_t queue[GULBERZAN_QUEUE_WORDS], uint64_t answer[GULBERZAN_ANSWER_WORDS]);
 
 /* The questions change nothing; case 1: no; case 2: yes. Refused 1. */
