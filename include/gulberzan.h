@@ -120,7 +120,8 @@ uint64_t gulberzan_well_formed(const uint64_t queue[GULBERZAN_QUEUE_WORDS]);
 uint64_t gulberzan_register(uint64_t queue[GULBERZAN_QUEUE_WORDS], uint64_t number,
                             uint64_t answer[GULBERZAN_ANSWER_WORDS]);
 
-/* Appends an undo number and moves the stage, Pending to Idle or Stopping to Closed; case 1: token. Refused 1, 2, 4, 3: the number comes back. */
+/* Appends an undo number and moves the stage, Pending to Idle or Stopping to Closed; case 1: token. Refused 1, 2, 4, 3: the number
+   comes back. */
 uint64_t gulberzan_land(uint64_t queue[GULBERZAN_QUEUE_WORDS], uint64_t number,
                         uint64_t answer[GULBERZAN_ANSWER_WORDS]);
 
@@ -136,7 +137,7 @@ uint64_t gulberzan_complete(uint64_t queue[GULBERZAN_QUEUE_WORDS], const uint64_
 /* Renews a failed ticket; case 1: domain, token, new attempt. Refused 1, 8. */
 uint64_t gulberzan_retry(uint64_t queue[GULBERZAN_QUEUE_WORDS], uint64_t answer[GULBERZAN_ANSWER_WORDS]);
 
-/* Moves an Idle stage to Pending if the target's members are the bindings' members; yes if it is pending afterwards. Refused 1. */
+/* Moves an Idle stage to Pending if target and bindings have the same members; yes if it is pending afterwards. Refused 1. */
 uint64_t gulberzan_admit(uint64_t queue[GULBERZAN_QUEUE_WORDS], const uint64_t *target, size_t count,
                          uint64_t answer[GULBERZAN_ANSWER_WORDS]);
 
