@@ -38,8 +38,8 @@ use Rattle.log_stages.specs.declared.stages.StageRecorded.{StageRecorded}
 use Rattle.log_stages.specs.declared.stages.CancelRecorded.{CancelRecorded}
 use Rattle.log_replay.specs.Replay.{sameRow, birthFits, popFits, completeFits, rowTicket, retryFits, replayedBirth, replayedPop, replayedComplete, replayedRetry, replayedStage, replayed}
 use Rattle.log_replay.specs.declared.replay.Replayed.{Replayed}
-use Rattle.log_reader.proofs.ByKind.{Columns, columns, at0, at1, at2, at3, at4, at5, at6, at7, past7}
-use Rattle.log_reader.proofs.RowsKeep.{admit-moves, end-moves, cancel-moves}
+use Rattle.log_replay.proofs.ByKind.{Columns, columns, at0, at1, at2, at3, at4, at5, at6, at7, past7}
+use Rattle.log_replay.proofs.RowsKeep.{admit-moves, end-moves, cancel-moves}
 use Rattle.log_language.specs.Readings.{every}
 use Rattle.history.specs.Histories.{Bench, bench, called, numberOf}
 use Rattle.history.specs.Fits.{isWord, fits, rowFits}

@@ -20,7 +20,7 @@ use Rattle.log_language.proofs.Core.{one-more-may}
 use Rattle.log_language.proofs.Lists.{snoc-ind}
 use Rattle.log_replay.specs.Replay.{replayed}
 use Rattle.log_reader.specs.Reader.{endOf, openedAs}
-use Rattle.log_reader.proofs.StageRows.{row-agrees}
+use Rattle.log_replay.proofs.StageRows.{row-agrees}
 use Rattle.history.specs.Histories.{Bench, bench, called, Start, History, opens, calls, rowsOf, openedQueue, opening, Leaves}
 use Rattle.history.proofs.Written.{Put}
 use Rattle.history.proofs.CallOfRow.{Writes, writes}

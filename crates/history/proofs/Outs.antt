@@ -16,7 +16,7 @@ use Rattle.log_language.specs.RowKinds.RowKind.{pop, complete}
 use Rattle.log_language.specs.Language.{Rule3, Rule4}
 use Rattle.log_language.proofs.RowSteps.{State}
 use Rattle.log_language.proofs.Pops.{outs, pops-out}
-use Rattle.log_reader.proofs.StateOf.{selectedOf}
+use Rattle.log_replay.proofs.StateOf.{selectedOf}
 use Rattle.history.specs.Histories.{Bench, Start, History, rowsOf, opening, outOf}
 use Rattle.history.proofs.Spoken.{Stands, stands, history-belongs}
 

@@ -30,8 +30,8 @@ use Rattle.log_attempts.specs.Attempts.{isWork, popRow, isSettledAnswer, isRene
 use Rattle.log_stages.specs.Stages.{moved}
 use Rattle.log_replay.specs.Replay.{sameRow, stepped, birthFits, popFits, completeFits, rowTicket, retryFits, replayedStage, replayed}
 use Rattle.log_replay.specs.declared.replay.Replayed.{Replayed}
-use Rattle.log_reader.proofs.ByKind.{same-columns, at0, at1, at2, at3, at4, at5, at6, at7}
-use Rattle.log_reader.proofs.RowsKeep.{admit-moves, end-moves, cancel-moves}
+use Rattle.log_replay.proofs.ByKind.{same-columns, at0, at1, at2, at3, at4, at5, at6, at7}
+use Rattle.log_replay.proofs.RowsKeep.{admit-moves, end-moves, cancel-moves}
 
 -- the row is replayed to the record p
 pub record Replays (q : Queue) (row : Row) (p : Queue) : Type 0 where

@@ -27,9 +27,9 @@ use Rattle.log_language.proofs.RowSteps.{State, opened, may, leave, endState}
 use Rattle.log_language.proofs.Core.{empty-belongs, one-more-may, end-snoc}
 use Rattle.log_replay.specs.Replay.{replayed}
 use Rattle.log_reader.specs.Reader.{endOf, openedAs}
-use Rattle.log_reader.proofs.StateOf.{stateOf}
-use Rattle.log_reader.proofs.StageRows.{row-agrees}
-use Rattle.log_reader.proofs.RowsKeep.{row-keeps, row-sized}
+use Rattle.log_replay.proofs.StateOf.{stateOf}
+use Rattle.log_replay.proofs.StageRows.{row-agrees}
+use Rattle.log_replay.proofs.RowsKeep.{row-keeps, row-sized}
 use Rattle.log_reader.proofs.Rightly.{opened-state}
 use Rattle.history.specs.Histories.{Bench, bench, Start, History, opens, calls, rowsOf, openedQueue, opening}
 use Rattle.history.proofs.Written.{Put}
