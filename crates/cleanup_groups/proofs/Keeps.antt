@@ -11,6 +11,7 @@ use Rattle.stage.specs.Choice.{if_then_else_}
 use Rattle.stage.proofs.Ways.{if-by, and-left, and-right, clash}
 use Rattle.queue_record.specs.WellFormed.{wellFormed}
 use Rattle.queue_record.specs.Openings.{scopeOf, blank}
+use Rattle.queue_record.specs.Blank.{isBlank}
 use Rattle.queue_record.specs.declared.record.Queue.{Queue}
 use Rattle.queue_record.specs.declared.search.Found.the-variants.{At}
 use Rattle.queue_record.proofs.Opened.{scope-well-formed, scope-sized}
@@ -19,7 +20,6 @@ use Rattle.cleanup_queue.specs.Runs as queue
 use Rattle.cleanup_queue.proofs.Sizes as sizes
 use Rattle.cleanup_queue.proofs.Upstream.{call-keeps-domain}
 use Rattle.group_record.specs.Record.{nowhere, placeAt, queueAt, freePlace, livePlace, holding, withPlace, withQueue, withNext, emptyOf, opening, sealing}
-use Rattle.group_record.specs.Blank.{isBlank}
 use Rattle.group_asking.specs.Questions.{asksOf}
 use Rattle.group_asking.specs.Scan.{firstYes}
 use Rattle.group_check.specs.WellFormed.{lastBase, ids, wellGrouped}

@@ -12,7 +12,7 @@ pub mod Rounds
 pub mod Numbers
 pub mod NumbersById
 pub mod Refusals
-pub mod Blanks
+pub mod FreePlaces
 pub mod Upstream
 pub mod Frames
 pub mod Live

@@ -8,8 +8,8 @@ use lib.Dec.{eqb}
 use lib.ListN.{length, getD, set, length-set}
 use lib.Seq.{getD-set-same, getD-set-other}
 use Rattle.queue_record.specs.WellFormed.{wellFormed}
+use Rattle.queue_record.specs.Blank.{isBlank}
 use Rattle.group_record.specs.Record.{nowhere, placeAt, withPlace, withNext}
-use Rattle.group_record.specs.Blank.{isBlank}
 use Rattle.group_record.specs.declared.record.Place.{Place}
 use Rattle.group_record.specs.declared.record.Groups.{Groups}
 use Rattle.cleanup_groups.specs.Promises.{LiveAt, idAt, Sound}

@@ -11,8 +11,8 @@ use Rattle.stage.specs.Choice.{if_then_else_, implies}
 use Rattle.stage.proofs.Ways.{hit, miss, pass, stop, and-left, and-right, clash, if-by}
 use Rattle.queue_record.specs.Newest.{isThere}
 use Rattle.queue_record.specs.WellFormed.{wellFormed}
+use Rattle.queue_record.specs.Blank.{isBlank}
 use Rattle.group_record.specs.Record.{nowhere, placeAt, queueAt}
-use Rattle.group_record.specs.Blank.{isBlank}
 use Rattle.group_asking.specs.Questions.{belongsTo, asksLive, asksFree, asksOf}
 use Rattle.group_asking.specs.Scan.{firstFrom, someYes}
 use Rattle.group_check.specs.WellFormed.{clashes, distinctIds, queuesFit, freeFits, sealedFits, wellGrouped}

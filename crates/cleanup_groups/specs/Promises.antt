@@ -10,11 +10,11 @@ use Rattle.queue_record.specs.declared.record.Selection.the-variants.{Free}
 use Rattle.queue_steps.specs.Attempts.{slot}
 use Rattle.group_record.specs.Record.{placeAt, queueAt}
 use Rattle.group_record.specs.declared.record.Groups.{Groups}
-use Rattle.group_record.specs.Blank.{isBlank}
 use Rattle.group_check.specs.WellFormed.{lastBase, ids}
 use mathlib.Core.List.{[]}
 use Rattle.stage.specs.Phases.{isPending, isSettled}
 use Rattle.queue_record.specs.Waiting.{waiting}
+use Rattle.queue_record.specs.Blank.{isBlank}
 
 -- the place i holds a live group
 abbrev pub LiveAt : Groups → ℕ → Type 0

@@ -6,11 +6,11 @@ use lib.Dec.{eqb, leb}
 use Rattle.stage.specs.Choice.{if_then_else_}
 use Rattle.stage.specs.Phases.{isPending, isSettled}
 use Rattle.queue_record.specs.WellFormed.{wellFormed}
+use Rattle.queue_record.specs.Blank.{isBlank}
 use Rattle.queue_record.specs.declared.record.Queue.{Queue}
 use Rattle.queue_questions.specs.Questions.{isEmptyTold, canRetryTold, canFinishTold}
 use Rattle.queue_questions.specs.declared.questions.Told.{Told}
 use Rattle.queue_questions.specs.declared.questions.Told.the-variants.{Yes, No, Refused}
-use Rattle.group_record.specs.Blank.{isBlank}
 use Rattle.group_record.specs.declared.record.Place.{Place}
 use Rattle.group_asking.specs.declared.questions.Question.{Question}
 use Rattle.group_asking.specs.declared.questions.Question.the-variants.{Free, Littered, Live, Holds, PastNext, Foreign, Pending, Issued, Failed, Stuck, Unfinished, Undrained}

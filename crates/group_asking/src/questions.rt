@@ -1,11 +1,11 @@
 // What can be asked of one place. Each question is answered yes or no, for any place.
 use group_record::Place;
-use group_record::is_blank;
 use queue_questions::Told;
 use queue_questions::can_finish;
 use queue_questions::can_retry;
 use queue_questions::is_empty;
 use queue_record::Queue;
+use queue_record::is_blank;
 use queue_record::well_formed;
 ghost use mathlib.Core.Path.{_≡_};
 ghost use Rattle.group_asking.specs.Questions.{isYes, belongsTo, littered, stuck, finishes, drained, asksLive, asksFree, asksOf};

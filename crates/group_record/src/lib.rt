@@ -1,9 +1,7 @@
-// The group record: its parts, its setters, and the test for a blank queue.
-mod blanks;
+// The group record: its parts and its setters.
 mod record;
 mod setters;
 
-pub use blanks::is_blank;
 pub use record::Groups;
 pub use record::Place;
 pub use setters::empty;

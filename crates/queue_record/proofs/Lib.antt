@@ -3,6 +3,7 @@ pub mod Padding
 pub mod Marks
 pub mod Fit
 pub mod Opened
+pub mod BlankOnly
 pub mod Waiting
 pub mod Last
 pub mod WaitingCount

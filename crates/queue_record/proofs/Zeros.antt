@@ -58,3 +58,13 @@ rest-more c xs h = rw add-one (rest-suc c xs h)
 pub zeros-are : (n : ℕ) → allZero (replicate n 0) ≡ true
 zeros-are zero = refl
 zeros-are (suc n) = zeros-are n
+
+-- and a list of n places that are all 0 is no other
+pub all-zeros : (xs : List ℕ) (n : ℕ) → length xs ≡ n → allZero xs ≡ true → xs ≡ replicate n 0
+all-zeros [] zero l h = refl
+all-zeros [] (suc n) l h = absurd (omega arith)
+all-zeros (x ∷ xs) zero l h = absurd (omega arith)
+all-zeros (x ∷ xs) (suc n) l h =
+    let e : x ≡ 0 = eqb-true x 0 (and-left (eqb x 0) (allZero xs) h) in
+    let r : xs ≡ replicate n 0 = all-zeros xs n (omega arith) (and-right (eqb x 0) (allZero xs) h) in
+    ap (λ (y : ℕ). y ∷ xs) e ∙ ap (λ (ys : List ℕ). 0 ∷ ys) r

@@ -4,3 +4,4 @@ pub mod WellFormed
 pub mod Waiting
 pub mod Newest
 pub mod Openings
+pub mod Blank

@@ -1,5 +1,6 @@
-// The queue record: its parts, the check that answers whether it is well formed, the openings, the search for the newest
-// waiting token, how many wait, and the record with another kind, selection or phase.
+// The queue record: its parts, the check that answers whether it is well formed, the test for the blank queue, the openings,
+// the search for the newest waiting token, how many wait, and the record with another kind, selection or phase.
+mod blanks;
 mod check;
 mod openings;
 mod record;
@@ -8,6 +9,7 @@ mod search;
 mod setters;
 mod tally;
 
+pub use blanks::is_blank;
 pub use check::scope_fits;
 pub use check::slot_fits;
 pub use check::ticket_fits;

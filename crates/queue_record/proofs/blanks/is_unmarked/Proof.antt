@@ -2,11 +2,11 @@
 use mathlib.Core.Path.{sym, ap, _∙_}
 use mathlib.Core.Bool.{not}
 use Rattle.stage.proofs.Ways.{pass, stop}
 use Rattle.queue_record.specs.WellFormed.{isSelected}
-use Rattle.group_record.specs.Blank.{isScope}
+use Rattle.queue_record.specs.Blank.{isScope}
 use borrow.Author.Needs.{needs}
-use Rattle.group_record.proofs.blanks.is_unmarked.Statement.{statement}
-use Rattle.group_record.proofs.blanks.is_unmarked.Tie as tie
+use Rattle.queue_record.proofs.blanks.is_unmarked.Statement.{statement}
+use Rattle.queue_record.proofs.blanks.is_unmarked.Tie as tie
 
 pub is-unmarked-spec : {M : Type 1} → statement M
 is-unmarked-spec =

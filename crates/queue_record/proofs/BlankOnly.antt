@@ -1,40 +1,24 @@
 -- The test for the blank queue is passed by the blank queue alone
-use Prim.Native.Nat.{ℕ, zero, suc, _<_}
-use mathlib.Core.Path.{_≡_, refl, ap, _∙_}
+use Prim.Native.Nat.{ℕ}
+use mathlib.Core.Path.{_≡_, refl}
 use mathlib.Core.Bool.{Bool, true, false, not, _&&_}
-use mathlib.Core.List.{List, [], _∷_}
-use native.Mathlib.Omega.{arith}
+use mathlib.Core.List.{List}
 use borrow.Author.Tests.{eqb-true, not-true}
 use lib.Dec.{eqb}
-use lib.ListN.{length, replicate}
 use Rattle.stage.specs.Phases.{differs}
 use Rattle.stage.specs.declared.phases.Phase.{Phase}
 use Rattle.stage.specs.declared.phases.Phase.the-variants.{Idle, Pending, Ended, Stopping, Closed}
 use Rattle.stage.proofs.Ways.{and-left, and-right, clash}
 use Rattle.queue_record.specs.Record.{Sized}
 use Rattle.queue_record.specs.WellFormed.{allZero, isSelected}
 use Rattle.queue_record.specs.Openings.{scopeOf, blank}
+use Rattle.queue_record.specs.Blank.{isScope, unmarked, unnumbered, isBlank}
 use Rattle.queue_record.specs.declared.record.Kind.{Kind}
 use Rattle.queue_record.specs.declared.record.Kind.the-variants.{Scope, Iterator}
 use Rattle.queue_record.specs.declared.record.Selection.{Selection}
 use Rattle.queue_record.specs.declared.record.Selection.the-variants.{Free, Of}
 use Rattle.queue_record.specs.declared.record.Queue.{Queue}
-use Rattle.group_record.specs.Record.{placeAt, queueAt, freePlace}
-use Rattle.group_record.specs.declared.record.Place.{Place}
-use Rattle.group_record.specs.declared.record.Groups.{Groups}
-use Rattle.group_check.specs.WellFormed.{wellGrouped}
-use Rattle.cleanup_groups.specs.Promises.{AllSized}
-use Rattle.cleanup_groups.proofs.Sounds.{sound-means}
-use Rattle.group_record.specs.Blank.{isScope, unmarked, unnumbered, isBlank}
-
-all-zeros : (xs : List ℕ) (n : ℕ) → length xs ≡ n → allZero xs ≡ true → xs ≡ replicate n 0
-all-zeros [] zero l h = refl
-all-zeros [] (suc n) l h = absurd (omega arith)
-all-zeros (x ∷ xs) zero l h = absurd (omega arith)
-all-zeros (x ∷ xs) (suc n) l h =
-    let e : x ≡ 0 = eqb-true x 0 (and-left (eqb x 0) (allZero xs) h) in
-    let r : xs ≡ replicate n 0 = all-zeros xs n (omega arith) (and-right (eqb x 0) (allZero xs) h) in
-    ap (λ (y : ℕ). y ∷ xs) e ∙ ap (λ (ys : List ℕ). 0 ∷ ys) r
+use Rattle.queue_record.proofs.Zeros.{all-zeros}
 
 scope-is : (k : Kind) → isScope k ≡ true → k ≡ Scope
 scope-is Scope h = refl
@@ -85,10 +69,3 @@ blank-only q z h =
     (ended-is (q .phase) (and-right (not (q .issued)) _ m₄))
     (all-zeros (q .bindings) 16 (z .bindings) (and-left (allZero (q .bindings)) _ n₂))
     (eqb-true (q .bound) 0 (and-right (eqb (q .count) 0) (eqb (q .bound) 0) n₅))
-
--- so a free place of a well-formed record is the free place, id and queue
-same-place : {n n′ : ℕ} {b b′ : Bool} {q q′ : Queue} → n ≡ n′ → b ≡ b′ → q ≡ q′ → _≡_ {A = Place} (record { id = n; live = b; queue = q }) (record { id = n′; live = b′; queue = q′ })
-same-place n b q = rw (n, b, q)
-
-pub free-blank : (g : Groups) (i : ℕ) → length (g .places) ≡ 16 → AllSized g → wellGrouped g ≡ true → i < 16 → placeAt g i .live ≡ false → placeAt g i ≡ freePlace
-free-blank g i l z w k f = let s = sound-means g l w .free i k f in same-place (s .0) f (blank-only (queueAt g i) (z i k) (s .1))

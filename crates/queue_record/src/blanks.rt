@@ -1,11 +1,11 @@
-// Whether a free place holds nothing.
-use queue_record::Kind;
-use queue_record::Queue;
-use queue_record::Selection;
-use queue_record::zeros_from;
+// Whether a record is the blank queue.
+use crate::check::zeros_from;
+use crate::record::Kind;
+use crate::record::Queue;
+use crate::record::Selection;
 use stage::Phase;
 ghost use mathlib.Core.Path.{_≡_};
-ghost use Rattle.group_record.specs.Blank.{unnumbered, unmarked, isBlank};
+ghost use Rattle.queue_record.specs.Blank.{unnumbered, unmarked, isBlank};
 
 // Every number of the record is 0.
 fn is_unnumbered(q: Queue) -> bool

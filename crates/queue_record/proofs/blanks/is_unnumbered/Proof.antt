@@ -3,8 +3,8 @@ use mathlib.Core.Path.{sym, _∙_}
 use borrow.Author.Tests.{eq-eqb, ne-eqb, not-true, not-false}
 use Rattle.stage.proofs.Ways.{pass, stop}
 use borrow.Author.Needs.{needs}
-use Rattle.group_record.proofs.blanks.is_unnumbered.Statement.{statement}
-use Rattle.group_record.proofs.blanks.is_unnumbered.Tie as tie
+use Rattle.queue_record.proofs.blanks.is_unnumbered.Statement.{statement}
+use Rattle.queue_record.proofs.blanks.is_unnumbered.Tie as tie
 
 pub is-unnumbered-spec : {M : Type 1} → statement M
 is-unnumbered-spec =
