@@ -16,7 +16,7 @@ use Rattle.queue_record.specs.declared.record.Queue.{Queue}
 use Rattle.queue_births.specs.Births.{grown, registered, landed}
 use Rattle.queue_births.specs.declared.births.RegisterAnswer.{RegisterAnswer}
 use Rattle.queue_words.specs.Words.{word, queueOf, isSound}
-use Rattle.queue_words.specs.Exported.{exported, answerOf, refusedOn, onRecord, bornExported, registerOn, landOn}
+use Rattle.queue_words.specs.Exported.{Exported, exported, answerOf, refusedOn, onRecord, bornExported, registerOn, landOn}
 use Rattle.queue_words.proofs.Setters.{Held, hold-slot, hold-count, hold-phase}
 use Rattle.queue_words.proofs.OnWords.{unsound-on, sound-on, sound-fits, same-words, held}
 use Rattle.word_steps.specs.Births.{registerRefusal, landRefusal, bornBy, grownIn, landedIn}
@@ -28,11 +28,11 @@ landedTo q number = withPhase (grown q number) (next (q .phase) Land)
 
 module _ (q : Queue) (number : ℕ) where
   module _ (w : wellFormed q ≡ true) where
-    pub register-parts : registered q number ≡ bornBy q number (grown q number) (registerRefusal q number)
+    register-parts : registered q number ≡ bornBy q number (grown q number) (registerRefusal q number)
     unfolding registered registerRefusal
     register-parts = let f : ℕ → RegisterAnswer = bornBy q number (grown q number) in miss _ (ap not w) ∙ sym (through f (eqb number 0) _ _ (λ _. through f (leb 64 (q .count)) _ _ (λ _. refl)))
 
-    pub land-parts : landed q number ≡ bornBy q number (landedTo q number) (landRefusal q number)
+    land-parts : landed q number ≡ bornBy q number (landedTo q number) (landRefusal q number)
     unfolding landed landRefusal
     land-parts = let f : ℕ → RegisterAnswer = bornBy q number (landedTo q number) in miss _ (ap not w) ∙ sym (through f (eqb number 0) _ _ (λ _. through f (not (isPending (q .phase))) _ _ (λ _. through f (leb 64 (q .count)) _ _ (λ _. refl))))
 
@@ -40,11 +40,11 @@ module _ (q : Queue) (number : ℕ) where
   abbrev Room : ℕ → Type 0
   Room n = n ≡ 0 → q .count < 64
 
-  pub register-room : Room (registerRefusal q number)
+  register-room : Room (registerRefusal q number)
   unfolding registerRefusal
   register-room = if-by Room (eqb number 0) _ _ (λ _ z. absurd (omega arith)) (λ _. if-by Room (leb 64 (q .count)) _ _ (λ _ z. absurd (omega arith)) (λ l _. leb-false _ _ l))
 
-  pub land-room : Room (landRefusal q number)
+  land-room : Room (landRefusal q number)
   unfolding landRefusal
   land-room = if-by Room (eqb number 0) _ _ (λ _ z. absurd (omega arith)) (λ _. if-by Room (not (isPending (q .phase))) _ _ (λ _ z. absurd (omega arith)) (λ _. if-by Room (leb 64 (q .count)) _ _ (λ _ z. absurd (omega arith)) (λ l _. leb-false _ _ l)))
 
@@ -60,46 +60,32 @@ module _ (ws : List ℕ) (s : isSound ws ≡ true) (number : ℕ) where
     landed-held = hold-phase grown-held (next (phaseAt (word ws 74)) Land)
 
   -- ---- the calls, by the number n that refuses them
-  module _ (n : ℕ) where
-    module _ (r : RegisterAnswer) (after : Queue) (e : r ≡ bornBy (queueOf ws) number after n) where
-      birth-no : (n ≡ 0 → ⊥) → onRecord ws number (bornExported r) ≡ refusedOn n number ws
-      birth-no z = sound-on ws s number _ ∙ (ap bornExported (e ∙ miss _ (ne-eqb _ _ z)) ∙ ap (refusedOn n number) (same-words ws s))
+  -- one call: the record r that it makes, which is after where nothing refuses, and the words vs that hold it
+  pub record Birth (n : ℕ) (call : Exported) (r : RegisterAnswer) (after : Queue) (vs : List ℕ) : Type 0 where
+    pub by : r ≡ bornBy (queueOf ws) number after n
+    pub place : n ≡ 0 → word ws 67 < 64
+    pub refuses : (n ≡ 0 → ⊥) → call ≡ refusedOn n number ws
+    pub answers : n ≡ 0 → call ≡ exported done (answerOf 1 (word ws 67)) vs
 
-      birth-yes : n ≡ 0 → {vs : List ℕ} → Held after vs → onRecord ws number (bornExported r) ≡ exported done (answerOf 1 (word ws 67)) vs
-      unfolding queueOf
-      birth-yes z h = sound-on ws s number _ ∙ (ap bornExported (e ∙ hit _ (eq-eqb _ _ z)) ∙ ap (exported done (answerOf 1 (word ws 67))) (h .words))
+  module _ (n due : ℕ) (r : RegisterAnswer) (after : Queue) (vs : List ℕ) (e : n ≡ due) (parts : r ≡ bornBy (queueOf ws) number after due) (room : Room (queueOf ws) number due) (stores : word ws 67 < 64 → Held after vs) where
+    birth : Birth n (onRecord ws number (bornExported r)) r after vs
+    unfolding queueOf
+    birth =
+        let made : r ≡ bornBy (queueOf ws) number after n = parts ∙ ap (bornBy (queueOf ws) number after) (sym e) in
+        record {
+          by = made;
+          place = λ z. room (sym e ∙ z);
+          refuses = λ z. sound-on ws s number _ ∙ (ap bornExported (made ∙ miss _ (ne-eqb _ _ z)) ∙ ap (refusedOn n number) (same-words ws s));
+          answers = λ z. sound-on ws s number _ ∙ (ap bornExported (made ∙ hit _ (eq-eqb _ _ z)) ∙ ap (exported done (answerOf 1 (word ws 67))) (stores (room (sym e ∙ z)) .words));
+        }
 
-    module _ (e : n ≡ registerRefusal (queueOf ws) number) where
-      pub register-by : registered (queueOf ws) number ≡ bornBy (queueOf ws) number (grown (queueOf ws) number) n
-      register-by = register-parts (queueOf ws) number (sound-fits ws s) ∙ ap (bornBy (queueOf ws) number (grown (queueOf ws) number)) (sym e)
+  pub register-birth : (n : ℕ) → n ≡ registerRefusal (queueOf ws) number → Birth n (registerOn ws number) (registered (queueOf ws) number) (grown (queueOf ws) number) (grownIn ws number)
+  unfolding registerOn
+  register-birth n e = birth n _ _ _ _ e (register-parts (queueOf ws) number (sound-fits ws s)) (register-room (queueOf ws) number) grown-held
 
-      pub register-place : n ≡ 0 → word ws 67 < 64
-      unfolding queueOf
-      register-place z = register-room (queueOf ws) number (sym e ∙ z)
-
-      pub register-no : (n ≡ 0 → ⊥) → registerOn ws number ≡ refusedOn n number ws
-      unfolding registerOn
-      register-no = birth-no _ _ register-by
-
-      pub register-yes : n ≡ 0 → registerOn ws number ≡ exported done (answerOf 1 (word ws 67)) (grownIn ws number)
-      unfolding registerOn
-      register-yes z = birth-yes _ _ register-by z (grown-held (register-place z))
-
-    module _ (e : n ≡ landRefusal (queueOf ws) number) where
-      pub land-by : landed (queueOf ws) number ≡ bornBy (queueOf ws) number (landedTo (queueOf ws) number) n
-      land-by = land-parts (queueOf ws) number (sound-fits ws s) ∙ ap (bornBy (queueOf ws) number (landedTo (queueOf ws) number)) (sym e)
-
-      pub land-place : n ≡ 0 → word ws 67 < 64
-      unfolding queueOf
-      land-place z = land-room (queueOf ws) number (sym e ∙ z)
-
-      pub land-no : (n ≡ 0 → ⊥) → landOn ws number ≡ refusedOn n number ws
-      unfolding landOn
-      land-no = birth-no _ _ land-by
-
-      pub land-yes : n ≡ 0 → landOn ws number ≡ exported done (answerOf 1 (word ws 67)) (landedIn ws number)
-      unfolding landOn
-      land-yes z = birth-yes _ _ land-by z (landed-held (land-place z))
+  pub land-birth : (n : ℕ) → n ≡ landRefusal (queueOf ws) number → Birth n (landOn ws number) (landed (queueOf ws) number) (landedTo (queueOf ws) number) (landedIn ws number)
+  unfolding landOn
+  land-birth n e = birth n _ _ _ _ e (land-parts (queueOf ws) number (sound-fits ws s)) (land-room (queueOf ws) number) landed-held
 
 -- words that are not sound are refused with 1
 module _ (ws : List ℕ) (number : ℕ) (u : isSound ws ≡ false) where

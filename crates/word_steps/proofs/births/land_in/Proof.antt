@@ -3,7 +3,7 @@ use mathlib.Core.Path.{sym, ap, _∙_}
 use Rattle.queue_record.specs.Refusals.{done}
 use Rattle.queue_words.specs.Words.{word}
 use Rattle.queue_words.specs.Exported.{exported, answerOf}
-use Rattle.word_steps.proofs.BirthLaws.{land-place, land-no, land-yes}
+use Rattle.word_steps.proofs.BirthLaws.{land-birth}
 use borrow.Author.Needs.{needs}
 use Rattle.word_steps.proofs.births.land_in.Statement.{statement}
 use Rattle.word_steps.proofs.births.land_in.Tie as tie
@@ -13,7 +13,7 @@ land-in-spec =
     tie.close
     (tie.spec
     (λ c κs. search needs)
-    (λ c. sym (land-no (c .before .before .before .before .args .queue .now) ((c .before .before .before .before) .pre) (c .before .before .before .before .args .number) _ (c .before .before .land-refusal .ensures) (c .before .if1 .taken)))
+    (λ c. sym (land-birth (c .before .before .before .before .args .queue .now) ((c .before .before .before .before) .pre) (c .before .before .before .before .args .number) _ (c .before .before .land-refusal .ensures) .refuses (c .before .if1 .taken)))
     (λ c. search needs)
-    (λ c κs. land-place (c .before .before .before .before .before .before .args .queue .now) ((c .before .before .before .before .before .before) .pre) (c .before .before .before .before .before .before .args .number) _ (c .before .before .before .before .land-refusal .ensures) (c .before .before .before .if1 .left))
-    (λ c. ap (exported done (answerOf 1 (word (c .before .before .before .before .before .before .before .args .queue .now) 67))) (c .grow-landed .ensures) ∙ sym (land-yes (c .before .before .before .before .before .before .before .args .queue .now) ((c .before .before .before .before .before .before .before) .pre) (c .before .before .before .before .before .before .before .args .number) _ (c .before .before .before .before .before .land-refusal .ensures) (c .before .before .before .before .if1 .left))))
+    (λ c κs. land-birth (c .before .before .before .before .before .before .args .queue .now) ((c .before .before .before .before .before .before) .pre) (c .before .before .before .before .before .before .args .number) _ (c .before .before .before .before .land-refusal .ensures) .place (c .before .before .before .if1 .left))
+    (λ c. ap (exported done (answerOf 1 (word (c .before .before .before .before .before .before .before .args .queue .now) 67))) (c .grow-landed .ensures) ∙ sym (land-birth (c .before .before .before .before .before .before .before .args .queue .now) ((c .before .before .before .before .before .before .before) .pre) (c .before .before .before .before .before .before .before .args .number) _ (c .before .before .before .before .before .land-refusal .ensures) .answers (c .before .before .before .before .if1 .left))))
