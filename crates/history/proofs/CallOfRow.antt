@@ -36,7 +36,7 @@ use Rattle.log_attempts.specs.declared.attempts.CompleteRecorded.{CompleteRecor
 use Rattle.log_attempts.specs.declared.attempts.RetryRecorded.{RetryRecorded}
 use Rattle.log_stages.specs.declared.stages.StageRecorded.{StageRecorded}
 use Rattle.log_stages.specs.declared.stages.CancelRecorded.{CancelRecorded}
-use Rattle.log_replay.specs.Replay.{sameRow, birthFits, popFits, completeFits, rowTicket, retryFits, replayedBirth, replayedPop, replayedComplete, replayedRetry, replayedStage, replayed}
+use Rattle.log_replay.specs.Replay.{sameRow, birthFits, popFits, rowTicket, retryFits, replayedBirth, replayedPop, replayedComplete, replayedRetry, replayedStage, replayed}
 use Rattle.log_replay.specs.declared.replay.Replayed.{Replayed}
 use Rattle.log_replay.proofs.ByKind.{Columns, columns, at0, at1, at2, at3, at4, at5, at6, at7, past7}
 use Rattle.log_replay.proofs.RowsKeep.{admit-moves, end-moves, cancel-moves}
@@ -100,11 +100,11 @@ module _ (b : Bench) (w : wellFormed (b .queue) ≡ true) (p : Put (b .log) (b .
       go Popped.Nothing e k = clash k refl
       go (Popped.Refused n) e k = clash k refl
 
-  writes-complete : r .kind ≡ 3 → completeFits (completed q (rowTicket q r) (r .outcome) (r .number) .answer) ≡ true → Writes b r
+  writes-complete : r .kind ≡ 3 → isSettledAnswer (completed q (rowTicket q r) (r .outcome) (r .number) .answer) ≡ true → Writes b r
   unfolding completeRecorded completeLogged
   writes-complete kind h = go (completed q (rowTicket q r) (r .outcome) (r .number) .answer) refl h
     where
-      go : (a : Completed) → completed q (rowTicket q r) (r .outcome) (r .number) .answer ≡ a → completeFits a ≡ true → Writes b r
+      go : (a : Completed) → completed q (rowTicket q r) (r .outcome) (r .number) .answer ≡ a → isSettledAnswer a ≡ true → Writes b r
       go Completed.Settled e k =
           let g = goes completeSaid (λ (x : CompleteRecorded). x .queue) (λ (x : CompleteRecorded). x .used) (λ (x : CompleteRecorded). completedSays (x .answer) .number) (λ x y z. refl) (λ x y z. refl) (Completed.Refused logFull (r .number)) (Completed.Refused broken (r .number)) (completed q (rowTicket q r) (r .outcome) (r .number) .answer) q (completed q (rowTicket q r) (r .outcome) (r .number) .queue) (b .used) (b .log) (rowOf 3 (r .token) (r .attempt) (r .outcome) (r .number)) (isSettledAnswer (completed q (rowTicket q r) (r .outcome) (r .number) .answer)) (λ k. omega arith) (λ k. omega arith) p (ap isSettledAnswer e) in
           record { call = complete (rowTicket q r) (r .outcome) (r .number); words = λ d f. pass _ d ∙ and-right (isWord (r .kind)) _ f; fine = ap (λ (x : CompleteRecorded). completedSays (x .answer) .number) (g .0) ∙ ap (λ (x : Completed). completedSays x .number) e; left = benches (ap (λ (x : CompleteRecorded). x .queue) (g .0)) (ap (λ (x : CompleteRecorded). x .used) (g .0)) (g .1 ∙ ap (λ (x : ℕ). appended (b .log) (b .used) (rowOf x (r .token) (r .attempt) (r .outcome) (r .number))) (sym kind)) }

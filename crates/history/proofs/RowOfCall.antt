@@ -28,7 +28,7 @@ use Rattle.log_rows.specs.declared.Row.{Row}
 use Rattle.log_calls.specs.Births.{isBirth, birthRow}
 use Rattle.log_attempts.specs.Attempts.{isWork, popRow, isSettledAnswer, isRenewed, retryRow}
 use Rattle.log_stages.specs.Stages.{moved}
-use Rattle.log_replay.specs.Replay.{sameRow, stepped, birthFits, popFits, completeFits, rowTicket, retryFits, replayedStage, replayed}
+use Rattle.log_replay.specs.Replay.{sameRow, stepped, birthFits, popFits, rowTicket, retryFits, replayedStage, replayed}
 use Rattle.log_replay.specs.declared.replay.Replayed.{Replayed}
 use Rattle.log_replay.proofs.ByKind.{same-columns, at0, at1, at2, at3, at4, at5, at6, at7}
 use Rattle.log_replay.proofs.RowsKeep.{admit-moves, end-moves, cancel-moves}
@@ -85,8 +85,8 @@ module _ (q : Queue) where
 
   pub complete-row : (t : Ticket) (o k : ℕ) → isSettledAnswer (completed q t o k .answer) ≡ true → Replays q (rowOf 3 (t .token) (t .attempt) o k) (after q (complete t o k))
   complete-row t o k h =
-      replays q (rowOf 3 (t .token) (t .attempt) o k) (completed q t o k .queue) (completeFits (completed q t o k .answer)) h
-      (at3 q (rowOf 3 (t .token) (t .attempt) o k) refl ∙ ap (λ (u : Ticket). stepped (completeFits (completed q u o k .answer)) (completed q u o k .queue)) (own-ticket t o k h))
+      replays q (rowOf 3 (t .token) (t .attempt) o k) (completed q t o k .queue) (isSettledAnswer (completed q t o k .answer)) h
+      (at3 q (rowOf 3 (t .token) (t .attempt) o k) refl ∙ ap (λ (u : Ticket). stepped (isSettledAnswer (completed q u o k .answer)) (completed q u o k .queue)) (own-ticket t o k h))
 
   module _ (w : wellFormed q ≡ true) where
     -- a stage that did not move is no row

@@ -113,6 +113,11 @@ completed q ticket outcome kept =
     if keepsOnDone outcome kept then refusedComplete q keptOnDone kept else
     record { answer = Settled; queue = answered q (ticket .token) outcome kept }
 
+-- an answer that is taken in, and not refused
+abbrev pub isSettledAnswer : Completed → Bool
+isSettledAnswer Completed.Settled = true
+isSettledAnswer (Completed.Refused n given) = false
+
 -- ---- retry
 abbrev pub refusedRetry : Queue → ℕ → RetryAnswer
 refusedRetry q refusal = record { answer = Retried.Refused refusal; queue = q }
