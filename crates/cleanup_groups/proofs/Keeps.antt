@@ -17,7 +17,7 @@ use Rattle.queue_record.specs.declared.search.Found.the-variants.{At}
 use Rattle.queue_record.proofs.Opened.{scope-well-formed, scope-sized}
 use Rattle.queue_steps.specs.Attempts.{retried}
 use Rattle.cleanup_queue.specs.Runs as queue
-use Rattle.cleanup_queue.proofs.Sizes as sizes
+use Rattle.cleanup_queue.proofs.Keeps as queues
 use Rattle.cleanup_queue.proofs.Upstream.{call-keeps-domain}
 use Rattle.group_record.specs.Record.{nowhere, placeAt, queueAt, freePlace, livePlace, holding, withPlace, withQueue, withNext, emptyOf, opening, sealing}
 use Rattle.group_asking.specs.Questions.{asksOf}
@@ -166,7 +166,7 @@ module _ (g : Groups) where
     next = s .next;
     distinct = λ i j k m a b e. s .distinct i j k m (sym (round-live i) ∙ a) (sym (round-live j) ∙ b) (sym (round-id i) ∙ (e ∙ round-id j));
     below = λ i k a. subst (λ (n : ℕ). n < g .next) (sym (round-id i)) (s .below i k (sym (round-live i) ∙ a));
-    queues = λ i k a. by-round (λ (p : Place). wellFormed (p .queue) ≡ true) g i (λ b _. sizes.call-keeps (queueAt g i) queue.retry (s .queues i k b)) (λ _. s .queues i k (sym (round-live i) ∙ a));
+    queues = λ i k a. by-round (λ (p : Place). wellFormed (p .queue) ≡ true) g i (λ b _. queues.call-keeps (queueAt g i) queue.retry (s .queues i k b)) (λ _. s .queues i k (sym (round-live i) ∙ a));
     domains = λ i k a. by-round (λ (p : Place). p .queue .domain ≡ g .base + p .id) g i (λ b _. call-keeps-domain (queueAt g i) queue.retry ∙ s .domains i k b) (λ _. s .domains i k (sym (round-live i) ∙ a));
     free = λ i k a. by-round (λ (p : Place). (p .id ≡ 0) × (isBlank (p .queue) ≡ true)) g i (λ b _. clash b (sym (round-live i) ∙ a)) (λ _. s .free i k (sym (round-live i) ∙ a));
     sealed = λ e i k. round-live i ∙ s .sealed e i k;
@@ -186,7 +186,7 @@ module _ (g : Groups) (l : length (g .places) ≡ 16) where
   sound-after : Sound g → (c : Call) → Sound (after g c)
   unfolding sealing
   sound-after s c = call-by (λ (h : Groups). Sound h) g s
-      (λ id i e k. let w = spot-live g id i l e in step-sound g l s i (queue.after (queueAt g i) k) (w .0) (w .1) (sizes.call-keeps (queueAt g i) k (s .queues i (w .0) (w .1))) (call-keeps-domain (queueAt g i) k))
+      (λ id i e k. let w = spot-live g id i l e in step-sound g l s i (queue.after (queueAt g i) k) (w .0) (w .1) (queues.call-keeps (queueAt g i) k (s .queues i (w .0) (w .1))) (call-keeps-domain (queueAt g i) k))
       (λ i q u e n. open-sound g l s i q (room-free g i l e .0) (unsealed-means g u .1) (room-means g i e .1) n)
       (λ id i e _. free-sound g l s i (spot-live g id i l e .0))
       (λ _ _. all-free-sound (g .base) (g .next) true (s .base) (s .next))

@@ -1,8 +1,8 @@
--- Every call keeps a well-formed record well formed
+-- Every call and every run keeps a well-formed record well formed
 use Prim.Native.Nat.{ℕ, _+_, _<_}
 use mathlib.Core.Path.{_≡_, refl, ap, _∙_}
 use mathlib.Core.Bool.{Bool, true, false, not}
-use mathlib.Core.List.{List}
+use mathlib.Core.List.{List, [], _∷_}
 use native.Mathlib.Omega.{arith}
 use borrow.Author.Tests.{ltb-true, ltb-false}
 use lib.Dec.{eqb, ltb}
@@ -33,6 +33,7 @@ use Rattle.queue_steps.specs.declared.attempts.RetryAnswer.{RetryAnswer}
 use Rattle.queue_stages.specs.Stages.{admitted, ended, cancelledBy}
 use Rattle.queue_stages.specs.declared.stages.StageAnswer.{StageAnswer}
 use Rattle.queue_stages.specs.declared.stages.CancelAnswer.{CancelAnswer}
+use Rattle.cleanup_queue.specs.Runs.{Call, register, land, pop, complete, retry, admit, end, cancel, after, afterAll}
 use Rattle.cleanup_queue.proofs.ByCase.{register-by, land-by, Popping, pop-by, Outside, complete-by, retry-by}
 
 -- ---- slots
@@ -202,3 +203,18 @@ module _ (q : Queue) (h : wellFormed q ≡ true) (t : Ticket) (e : q .selection 
 
 pub retry-keeps : (q : Queue) → wellFormed q ≡ true → wellFormed (retried q .queue) ≡ true
 retry-keeps q h = retry-by (λ (r : RetryAnswer). wellFormed (r .queue) ≡ true) q (λ _. h) (λ w t e a. again-fits q h t e a)
+
+-- ---- all calls, and runs
+pub call-keeps : (q : Queue) (c : Call) → wellFormed q ≡ true → wellFormed (after q c) ≡ true
+call-keeps q (register n) h = register-keeps q n h
+call-keeps q (land n) h = land-keeps q n h
+call-keeps q pop h = pop-keeps q h
+call-keeps q (complete t o k) h = complete-keeps q t o k h
+call-keeps q retry h = retry-keeps q h
+call-keeps q (admit m) h = admit-keeps q m h
+call-keeps q end h = end-keeps q h
+call-keeps q cancel h = cancel-keeps q h
+
+pub run-keeps : (q : Queue) (cs : List Call) → wellFormed q ≡ true → wellFormed (afterAll q cs) ≡ true
+run-keeps q [] h = h
+run-keeps q (c ∷ cs) h = run-keeps (after q c) cs (call-keeps q c h)

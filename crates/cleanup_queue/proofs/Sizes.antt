@@ -1,7 +1,8 @@
--- Every call and every run keeps the lengths of the two arrays, and keeps a well-formed record well formed
+-- Every call and every run keeps the lengths of the two arrays
 use Prim.Native.Nat.{ℕ}
 use mathlib.Core.Path.{_≡_, _∙_}
-use mathlib.Core.Bool.{true, not}
+use mathlib.Core.Bool.{not}
+use mathlib.Core.List.{List, [], _∷_}
 use lib.Dec.{eqb}
 use lib.ListN.{length, set, length-set}
 use Rattle.stage.proofs.Ways.{if-by}
@@ -17,8 +18,6 @@ use Rattle.queue_stages.specs.declared.stages.StageAnswer.{StageAnswer}
 use Rattle.queue_stages.specs.declared.stages.CancelAnswer.{CancelAnswer}
 use Rattle.cleanup_queue.specs.Runs.{Call, register, land, pop, complete, retry, admit, end, cancel, after, afterAll}
 use Rattle.cleanup_queue.proofs.ByCase.{register-by, land-by, pop-by, complete-by, retry-by}
-use Rattle.cleanup_queue.proofs.Keeps.{register-keeps, land-keeps, pop-keeps, complete-keeps, retry-keeps, admit-keeps, end-keeps, cancel-keeps}
-use mathlib.Core.List.{List, [], _∷_}
 
 -- the lengths are kept by a store; what else a step sets is no array
 stored : (q : Queue) (k n : ℕ) → Sized q → length (set (q .slots) k n) ≡ 64
@@ -36,21 +35,6 @@ call-sized q retry s = retry-by (λ (r : RetryAnswer). Sized (r .queue)) q (λ _
 call-sized q (admit m) s = if-by (λ (r : StageAnswer). Sized (r .queue)) (not (wellFormed q)) _ _ (λ _. s) (λ _. record { slots = s .slots; bindings = s .bindings })
 call-sized q end s = if-by (λ (r : StageAnswer). Sized (r .queue)) (not (wellFormed q)) _ _ (λ _. s) (λ _. record { slots = s .slots; bindings = s .bindings })
 call-sized q cancel s = if-by (λ (r : CancelAnswer). Sized (r .queue)) (not (wellFormed q)) _ _ (λ _. s) (λ _. record { slots = s .slots; bindings = s .bindings })
-
--- ---- every call keeps "well formed", and so does every run
-pub call-keeps : (q : Queue) (c : Call) → wellFormed q ≡ true → wellFormed (after q c) ≡ true
-call-keeps q (register n) h = register-keeps q n h
-call-keeps q (land n) h = land-keeps q n h
-call-keeps q pop h = pop-keeps q h
-call-keeps q (complete t o k) h = complete-keeps q t o k h
-call-keeps q retry h = retry-keeps q h
-call-keeps q (admit m) h = admit-keeps q m h
-call-keeps q end h = end-keeps q h
-call-keeps q cancel h = cancel-keeps q h
-
-pub run-keeps : (q : Queue) (cs : List Call) → wellFormed q ≡ true → wellFormed (afterAll q cs) ≡ true
-run-keeps q [] h = h
-run-keeps q (c ∷ cs) h = run-keeps (after q c) cs (call-keeps q c h)
 
 pub run-sized : (q : Queue) (cs : List Call) → Sized q → Sized (afterAll q cs)
 run-sized q [] s = s

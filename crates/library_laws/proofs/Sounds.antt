@@ -16,7 +16,8 @@ use Rattle.queue_questions.specs.declared.questions.Told.{Told}
 use Rattle.queue_stages.specs.Stages.{admitted, ended, cancelledBy}
 use Rattle.queue_stages.specs.declared.stages.Cancelled.{Cancelled}
 use Rattle.cleanup_queue.specs.Runs.{Call, after}
-use Rattle.cleanup_queue.proofs.Sizes.{call-sized, call-keeps}
+use Rattle.cleanup_queue.proofs.Keeps.{call-keeps}
+use Rattle.cleanup_queue.proofs.Sizes.{call-sized}
 use Rattle.queue_words.specs.Words.{word, ticketOf, queueOf, wordsOf, isSound}
 use Rattle.queue_words.specs.Exported.{Exported, bornSaid, popSaid, completeSaid, retrySaid, toldSaid, cancelSaid, registerOn, landOn, popOn, completeOn, retryOn, admitOn, admitWithoutOn, endOn, cancelOn}
 use Rattle.queue_words.proofs.RoundTrip.{queue-sized}
