@@ -21,7 +21,8 @@ use Rattle.log_rows.specs.Appending.{appended}
 use Rattle.log_rows.specs.declared.Row.{Row}
 use Rattle.log_rows.proofs.RowList.{rows-written}
 use Rattle.log_rows.proofs.OtherWords.{appended-behind}
-use Rattle.log_rows.proofs.Space.{room-fits, room-few, written-length}
+use Rattle.log_rows.proofs.Space.{room-fits, room-few}
+use Rattle.log_rows.proofs.Written.{written-length}
 use Rattle.log_language.specs.Language.{Belongs}
 use Rattle.log_language.proofs.RowSteps.{State, opened, may, leave, endState}
 use Rattle.log_language.proofs.Core.{empty-belongs, one-more-may, end-snoc}
