@@ -1,5 +1,4 @@
 // The number and the values of an answer, as words of a line.
-use crate::print;
 use cleanup_queue::Phase;
 use cleanup_queue::Popped;
 use cleanup_queue::Registered;
@@ -10,20 +9,20 @@ use cleanup_queue::Told;
 pub const DONE: u64 = 0;
 
 pub fn ticket(t: Ticket) {
-    print::number(t.domain);
-    print::number(t.token);
-    print::number(t.attempt);
+    bench_print::number(t.domain);
+    bench_print::number(t.token);
+    bench_print::number(t.attempt);
 }
 
 pub fn registered(answer: Registered) {
     match answer {
         Registered::Token(token) => {
-            print::number(DONE);
-            print::number(token);
+            bench_print::number(DONE);
+            bench_print::number(token);
         }
         Registered::Refused(refusal, given) => {
-            print::number(refusal);
-            print::number(given);
+            bench_print::number(refusal);
+            bench_print::number(given);
         }
     }
 }
@@ -31,12 +30,12 @@ pub fn registered(answer: Registered) {
 pub fn popped(answer: Popped) {
     match answer {
         Popped::Work(t, undo) => {
-            print::number(DONE);
+            bench_print::number(DONE);
             ticket(t);
-            print::number(undo);
+            bench_print::number(undo);
         }
-        Popped::Nothing => print::number(DONE),
-        Popped::Refused(refusal) => print::number(refusal),
+        Popped::Nothing => bench_print::number(DONE),
+        Popped::Refused(refusal) => bench_print::number(refusal),
     }
 }
 
@@ -44,23 +43,23 @@ pub fn popped(answer: Popped) {
 pub fn told(answer: Told) {
     match answer {
         Told::Yes => {
-            print::number(DONE);
-            print::number(1);
+            bench_print::number(DONE);
+            bench_print::number(1);
         }
         Told::No => {
-            print::number(DONE);
-            print::number(0);
+            bench_print::number(DONE);
+            bench_print::number(0);
         }
-        Told::Refused(refusal) => print::number(refusal),
+        Told::Refused(refusal) => bench_print::number(refusal),
     }
 }
 
 pub fn phase(phase: Phase) {
     match phase {
-        Phase::Idle => print::word(b"idle"),
-        Phase::Pending => print::word(b"pending"),
-        Phase::Ended => print::word(b"ended"),
-        Phase::Stopping => print::word(b"stopping"),
-        Phase::Closed => print::word(b"closed"),
+        Phase::Idle => bench_print::word(b"idle"),
+        Phase::Pending => bench_print::word(b"pending"),
+        Phase::Ended => bench_print::word(b"ended"),
+        Phase::Stopping => bench_print::word(b"stopping"),
+        Phase::Closed => bench_print::word(b"closed"),
     }
 }

@@ -1,28 +1,27 @@
 // The calls that ask: what a queue tells of itself, a line a question.
 use crate::answers;
 use crate::calls;
-use crate::print;
 use cleanup_queue::DomainTold;
 use cleanup_queue::Kind;
 use cleanup_queue::Queue;
 use cleanup_queue::Told;
 
 fn told(section: u8, case: u64, call: &[u8], answer: Told) {
-    print::start(section, case, call);
+    bench_print::start(section, case, call);
     answers::told(answer);
-    print::line_end();
+    bench_print::line_end();
 }
 
 fn domain(section: u8, case: u64, q: Queue) {
-    print::start(section, case, b"domain");
+    bench_print::start(section, case, b"domain");
     match cleanup_queue::domain(q) {
         DomainTold::Is(domain) => {
-            print::number(answers::DONE);
-            print::number(domain);
+            bench_print::number(answers::DONE);
+            bench_print::number(domain);
         }
-        DomainTold::Refused(refusal) => print::number(refusal),
+        DomainTold::Refused(refusal) => bench_print::number(refusal),
     }
-    print::line_end();
+    bench_print::line_end();
 }
 
 // Every question that a queue answers.
@@ -50,43 +49,43 @@ pub fn all(section: u8, case: u64, q: Queue, target: &[u64]) {
 
 // Whether the record is well formed, and what a changing call and a question make of it.
 pub fn well_formed(section: u8, case: u64, q: Queue) {
-    print::start(section, case, b"well_formed");
+    bench_print::start(section, case, b"well_formed");
     if cleanup_queue::well_formed(q) {
-        print::word(b"yes");
+        bench_print::word(b"yes");
     } else {
-        print::word(b"no");
+        bench_print::word(b"no");
     }
-    print::word(b"pop");
+    bench_print::word(b"pop");
     let a = cleanup_queue::pop(q);
     let answer = a.answer;
     let after = a.queue;
     answers::popped(answer);
     calls::say_same(q, after);
-    print::word(b"is_empty");
+    bench_print::word(b"is_empty");
     answers::told(cleanup_queue::is_empty(q));
-    print::line_end();
+    bench_print::line_end();
 }
 
 // The fields that an opening settles.
 pub fn queue(section: u8, case: u64, q: Queue) {
-    print::start(section, case, b"queue");
+    bench_print::start(section, case, b"queue");
     let kind = q.kind;
     match kind {
-        Kind::Scope => print::word(b"scope"),
-        Kind::Iterator => print::word(b"iterator"),
+        Kind::Scope => bench_print::word(b"scope"),
+        Kind::Iterator => bench_print::word(b"iterator"),
     }
-    print::number(q.domain);
-    print::number(q.next);
+    bench_print::number(q.domain);
+    bench_print::number(q.next);
     let phase = q.phase;
     answers::phase(phase);
-    print::number(q.count);
-    print::number(q.bound);
-    print::line_end();
+    bench_print::number(q.count);
+    bench_print::number(q.bound);
+    bench_print::line_end();
 }
 
 pub fn bindings(section: u8, case: u64, q: Queue) {
-    print::start(section, case, b"bindings");
+    bench_print::start(section, case, b"bindings");
     let bindings = q.bindings;
-    print::numbers(&bindings);
-    print::line_end();
+    bench_print::numbers(&bindings);
+    bench_print::line_end();
 }

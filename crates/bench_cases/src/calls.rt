@@ -2,7 +2,6 @@
 use crate::answers;
 use crate::answers::DONE;
 use crate::compare;
-use crate::print;
 use cleanup_queue::Cancelled;
 use cleanup_queue::Completed;
 use cleanup_queue::Opened;
@@ -14,15 +13,15 @@ use cleanup_queue::Ticket;
 // Ends a line with whether the record is as it was.
 pub fn say_same(before: Queue, after: Queue) {
     if compare::same_queue(before, after) {
-        print::word(b"same");
+        bench_print::word(b"same");
     } else {
-        print::word(b"changed");
+        bench_print::word(b"changed");
     }
 }
 
 fn end_line(before: Queue, after: Queue) -> Queue {
     say_same(before, after);
-    print::line_end();
+    bench_print::line_end();
     after
 }
 
@@ -37,12 +36,12 @@ pub fn iterator(section: u8, case: u64, domain: u64, first: u64, bindings: &[u64
     let a = cleanup_queue::iterator(domain, first, bindings);
     let answer = a.answer;
     let after = a.queue;
-    print::start(section, case, b"iterator");
+    bench_print::start(section, case, b"iterator");
     match answer {
-        Opened::Open => print::number(DONE),
-        Opened::Refused(refusal) => print::number(refusal),
+        Opened::Open => bench_print::number(DONE),
+        Opened::Refused(refusal) => bench_print::number(refusal),
     }
-    print::line_end();
+    bench_print::line_end();
     after
 }
 
@@ -50,7 +49,7 @@ pub fn register(section: u8, case: u64, q: Queue, undo: u64) -> Queue {
     let a = cleanup_queue::register(q, undo);
     let answer = a.answer;
     let after = a.queue;
-    print::start(section, case, b"register");
+    bench_print::start(section, case, b"register");
     answers::registered(answer);
     end_line(q, after)
 }
@@ -59,7 +58,7 @@ pub fn land(section: u8, case: u64, q: Queue, undo: u64) -> Queue {
     let a = cleanup_queue::land(q, undo);
     let answer = a.answer;
     let after = a.queue;
-    print::start(section, case, b"land");
+    bench_print::start(section, case, b"land");
     answers::registered(answer);
     end_stage_line(q, after)
 }
@@ -68,7 +67,7 @@ pub fn pop(section: u8, case: u64, q: Queue) -> Queue {
     let a = cleanup_queue::pop(q);
     let answer = a.answer;
     let after = a.queue;
-    print::start(section, case, b"pop");
+    bench_print::start(section, case, b"pop");
     answers::popped(answer);
     end_line(q, after)
 }
@@ -84,12 +83,12 @@ pub fn complete(
     let a = cleanup_queue::complete(q, ticket, outcome, kept);
     let answer = a.answer;
     let after = a.queue;
-    print::start(section, case, b"complete");
+    bench_print::start(section, case, b"complete");
     match answer {
-        Completed::Settled => print::number(DONE),
+        Completed::Settled => bench_print::number(DONE),
         Completed::Refused(refusal, given) => {
-            print::number(refusal);
-            print::number(given);
+            bench_print::number(refusal);
+            bench_print::number(given);
         }
     }
     end_line(q, after)
@@ -99,13 +98,13 @@ pub fn retry(section: u8, case: u64, q: Queue) -> Queue {
     let a = cleanup_queue::retry(q);
     let answer = a.answer;
     let after = a.queue;
-    print::start(section, case, b"retry");
+    bench_print::start(section, case, b"retry");
     match answer {
         Retried::Again(renewed) => {
-            print::number(DONE);
+            bench_print::number(DONE);
             answers::ticket(renewed);
         }
-        Retried::Refused(refusal) => print::number(refusal),
+        Retried::Refused(refusal) => bench_print::number(refusal),
     }
     end_line(q, after)
 }
@@ -114,7 +113,7 @@ pub fn retry(section: u8, case: u64, q: Queue) -> Queue {
 fn staged(section: u8, case: u64, call: &[u8], before: Queue, a: StageAnswer) -> Queue {
     let answer = a.answer;
     let after = a.queue;
-    print::start(section, case, call);
+    bench_print::start(section, case, call);
     answers::told(answer);
     end_stage_line(before, after)
 }
@@ -141,10 +140,10 @@ pub fn cancel(section: u8, case: u64, q: Queue) -> Queue {
     let a = cleanup_queue::cancel(q);
     let answer = a.answer;
     let after = a.queue;
-    print::start(section, case, b"cancel");
+    bench_print::start(section, case, b"cancel");
     match answer {
-        Cancelled::Done => print::number(DONE),
-        Cancelled::Refused(refusal) => print::number(refusal),
+        Cancelled::Done => bench_print::number(DONE),
+        Cancelled::Refused(refusal) => bench_print::number(refusal),
     }
     end_stage_line(q, after)
 }

@@ -7,7 +7,6 @@ mod life;
 mod marked;
 mod openings;
 mod order;
-mod print;
 mod questions;
 mod queues;
 mod refusals;

@@ -1,7 +1,6 @@
 // The openings, and how many tokens and bindings a queue takes.
 use crate::asks;
 use crate::calls;
-use crate::print;
 use crate::queues;
 use cleanup_queue::Queue;
 
@@ -24,9 +23,9 @@ pub fn of_both_kinds() {
     let seventeen = [4u64; 17];
     let blank = calls::iterator(b'B', 6, 5, 3, &seventeen);
     opened(6, blank);
-    print::start(b'B', 6, b"blank");
+    bench_print::start(b'B', 6, b"blank");
     calls::say_same(cleanup_queue::scope(0, 0), blank);
-    print::line_end();
+    bench_print::line_end();
 }
 
 // One register more, after as many as the label says.

@@ -1,5 +1,4 @@
 // The group calls: each prints its answer and hands on the record.
-use crate::print;
 use group_endings::CloseAnswer;
 use group_endings::Closed;
 use group_lives::AddAnswer;
@@ -17,26 +16,26 @@ use queue_steps::Retried;
 pub fn new(case: u64, base: u64) -> Groups {
     let made = group_lives::new(base);
     let answer = made.answer;
-    print::start(b'G', case, b"new");
+    bench_print::start(b'G', case, b"new");
     match answer {
-        Opened::Open => print::number(0),
-        Opened::Refused(refusal) => print::number(refusal),
+        Opened::Open => bench_print::number(0),
+        Opened::Refused(refusal) => bench_print::number(refusal),
     }
-    print::line_end();
+    bench_print::line_end();
     made.groups
 }
 
 fn opened(case: u64, what: &[u8], a: AddAnswer) -> Groups {
     let answer = a.answer;
-    print::start(b'G', case, what);
+    bench_print::start(b'G', case, what);
     match answer {
         Added::Id(id) => {
-            print::number(0);
-            print::number(id);
+            bench_print::number(0);
+            bench_print::number(id);
         }
-        Added::Refused(refusal) => print::number(refusal),
+        Added::Refused(refusal) => bench_print::number(refusal),
     }
-    print::line_end();
+    bench_print::line_end();
     a.groups
 }
 
@@ -50,12 +49,12 @@ pub fn iterator(case: u64, g: Groups, bindings: &[u64]) -> Groups {
 
 fn closed(case: u64, what: &[u8], a: CloseAnswer) -> Groups {
     let answer = a.answer;
-    print::start(b'G', case, what);
+    bench_print::start(b'G', case, what);
     match answer {
-        Closed::Done => print::number(0),
-        Closed::Refused(refusal) => print::number(refusal),
+        Closed::Done => bench_print::number(0),
+        Closed::Refused(refusal) => bench_print::number(refusal),
     }
-    print::line_end();
+    bench_print::line_end();
     a.groups
 }
 
@@ -68,18 +67,18 @@ pub fn seal(case: u64, g: Groups) -> Groups {
 }
 
 fn born(case: u64, what: &[u8], answer: Registered) {
-    print::start(b'G', case, what);
+    bench_print::start(b'G', case, what);
     match answer {
         Registered::Token(token) => {
-            print::number(0);
-            print::number(token);
+            bench_print::number(0);
+            bench_print::number(token);
         }
         Registered::Refused(refusal, given) => {
-            print::number(refusal);
-            print::number(given);
+            bench_print::number(refusal);
+            bench_print::number(given);
         }
     }
-    print::line_end();
+    bench_print::line_end();
 }
 
 pub fn register(case: u64, g: Groups, id: u64, undo: u64) -> Groups {
@@ -99,78 +98,78 @@ pub fn land(case: u64, g: Groups, id: u64, undo: u64) -> Groups {
 pub fn pop(case: u64, g: Groups, id: u64) -> Groups {
     let a = group_steps::pop(g, id);
     let answer = a.answer;
-    print::start(b'G', case, b"pop");
+    bench_print::start(b'G', case, b"pop");
     match answer {
         Popped::Work(ticket, undo) => {
-            print::number(0);
-            print::number(ticket.domain);
-            print::number(ticket.token);
-            print::number(ticket.attempt);
-            print::number(undo);
+            bench_print::number(0);
+            bench_print::number(ticket.domain);
+            bench_print::number(ticket.token);
+            bench_print::number(ticket.attempt);
+            bench_print::number(undo);
         }
-        Popped::Nothing => print::number(0),
-        Popped::Refused(refusal) => print::number(refusal),
+        Popped::Nothing => bench_print::number(0),
+        Popped::Refused(refusal) => bench_print::number(refusal),
     }
-    print::line_end();
+    bench_print::line_end();
     a.groups
 }
 
 pub fn complete(case: u64, g: Groups, id: u64, ticket: Ticket, outcome: u64, kept: u64) -> Groups {
     let a = group_steps::complete(g, id, ticket, outcome, kept);
     let answer = a.answer;
-    print::start(b'G', case, b"complete");
+    bench_print::start(b'G', case, b"complete");
     match answer {
-        Completed::Settled => print::number(0),
+        Completed::Settled => bench_print::number(0),
         Completed::Refused(refusal, given) => {
-            print::number(refusal);
-            print::number(given);
+            bench_print::number(refusal);
+            bench_print::number(given);
         }
     }
-    print::line_end();
+    bench_print::line_end();
     a.groups
 }
 
 pub fn retry(case: u64, g: Groups, id: u64) -> Groups {
     let a = group_steps::retry(g, id);
     let answer = a.answer;
-    print::start(b'G', case, b"retry");
+    bench_print::start(b'G', case, b"retry");
     match answer {
         Retried::Again(ticket) => {
-            print::number(0);
-            print::number(ticket.attempt);
+            bench_print::number(0);
+            bench_print::number(ticket.attempt);
         }
-        Retried::Refused(refusal) => print::number(refusal),
+        Retried::Refused(refusal) => bench_print::number(refusal),
     }
-    print::line_end();
+    bench_print::line_end();
     a.groups
 }
 
 // Yes is 1 and no is 0, behind the number.
 pub fn told(case: u64, what: &[u8], answer: Told) {
-    print::start(b'G', case, what);
+    bench_print::start(b'G', case, what);
     match answer {
         Told::Yes => {
-            print::number(0);
-            print::number(1);
+            bench_print::number(0);
+            bench_print::number(1);
         }
         Told::No => {
-            print::number(0);
-            print::number(0);
+            bench_print::number(0);
+            bench_print::number(0);
         }
-        Told::Refused(refusal) => print::number(refusal),
+        Told::Refused(refusal) => bench_print::number(refusal),
     }
-    print::line_end();
+    bench_print::line_end();
 }
 
 pub fn domain(case: u64, g: Groups, id: u64) {
     let answer = group_questions::group_domain(g, id);
-    print::start(b'G', case, b"domain");
+    bench_print::start(b'G', case, b"domain");
     match answer {
         DomainTold::Is(n) => {
-            print::number(0);
-            print::number(n);
+            bench_print::number(0);
+            bench_print::number(n);
         }
-        DomainTold::Refused(refusal) => print::number(refusal),
+        DomainTold::Refused(refusal) => bench_print::number(refusal),
     }
-    print::line_end();
+    bench_print::line_end();
 }

@@ -1,6 +1,5 @@
 // Groups at the limits: sixteen and one more, the last ids, the last base, a freed place.
 use crate::calls;
-use crate::print;
 use group_record::Groups;
 
 // The root and fifteen more fill the record.
@@ -50,9 +49,9 @@ fn freed() {
     let less = calls::close(5, three, 2);
     let again = calls::scope(5, less);
     let place = again.places[2];
-    print::start(b'G', 5, b"place");
-    print::number(place.id);
-    print::line_end();
+    bench_print::start(b'G', 5, b"place");
+    bench_print::number(place.id);
+    bench_print::line_end();
     calls::told(5, b"contains", group_survey::contains(again, 2));
     calls::register(5, again, 2, 71);
 }

@@ -2,7 +2,6 @@
 mod calls;
 mod limits;
 mod lives;
-mod print;
 mod spoiled;
 
 fn main() {

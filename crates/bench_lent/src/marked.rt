@@ -26,9 +26,9 @@ fn register(case: u64, q: Queue, undo: u64) -> Queue {
     let a = queue_births::register(q, undo);
     let answer = a.answer;
     let after = a.queue;
-    print::start(case, b"register");
+    bench_print::start(b'W', case, b"register");
     print::registered(answer);
-    print::line_end();
+    bench_print::line_end();
     after
 }
 
@@ -36,9 +36,9 @@ fn retry(case: u64, q: Queue) -> Queue {
     let a = queue_steps::retry(q);
     let answer = a.answer;
     let after = a.queue;
-    print::start(case, b"retry");
+    bench_print::start(b'W', case, b"retry");
     print::retried(answer);
-    print::line_end();
+    bench_print::line_end();
     after
 }
 
@@ -47,13 +47,13 @@ fn turn(case: u64, q: Queue, ticket: Ticket, outcome: u64, kept: u64) -> Queue {
     let popped = a.popped;
     let completed = a.completed;
     let after = a.queue;
-    print::start(case, b"pop");
+    bench_print::start(b'W', case, b"pop");
     print::popped(popped);
-    print::word(b"complete");
+    bench_print::word(b"complete");
     print::completed(completed);
-    print::word(b"queue");
+    bench_print::word(b"queue");
     print::queue(after);
-    print::line_end();
+    bench_print::line_end();
     after
 }
 

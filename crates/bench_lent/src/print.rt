@@ -1,5 +1,5 @@
-// Words, numbers and answers on standard output.
-use libc::STDOUT_FILENO;
+// Answers and records on standard output.
+use bench_print::number;
 use queue_births::Registered;
 use queue_record::Queue;
 use queue_record::Selection;
@@ -10,27 +10,6 @@ use queue_steps::Retried;
 
 // What an answer carries where nothing was refused.
 const DONE: u64 = 0;
-
-// A line starts with the case's number and the call.
-pub fn start(case: u64, call: &[u8]) {
-    io::write_all(STDOUT_FILENO, b"W");
-    io::print_decimal(STDOUT_FILENO, case);
-    word(call);
-}
-
-pub fn word(text: &[u8]) {
-    io::write_all(STDOUT_FILENO, b" ");
-    io::write_all(STDOUT_FILENO, text);
-}
-
-fn number(n: u64) {
-    io::write_all(STDOUT_FILENO, b" ");
-    io::print_decimal(STDOUT_FILENO, n);
-}
-
-pub fn line_end() {
-    io::write_all(STDOUT_FILENO, b"\n");
-}
 
 fn ticket(t: Ticket) {
     number(t.domain);

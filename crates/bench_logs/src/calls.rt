@@ -1,5 +1,4 @@
 // The recorded calls: each prints its answer and the used count, and hands on the queue and that count.
-use crate::print;
 use cleanup_queue::Cancelled;
 use cleanup_queue::Completed;
 use cleanup_queue::Popped;
@@ -24,24 +23,24 @@ pub fn after(q: Queue, used: u64) -> Past {
 }
 
 fn end_line(q: Queue, used: u64) -> Past {
-    print::word(b"used");
-    print::number(used);
-    print::line_end();
+    bench_print::word(b"used");
+    bench_print::number(used);
+    bench_print::line_end();
     after(q, used)
 }
 
 fn born(section: u8, case: u64, call: &[u8], a: RegisterRecorded) -> Past {
     let answer = a.answer;
     let q = a.queue;
-    print::start(section, case, call);
+    bench_print::start(section, case, call);
     match answer {
         Registered::Token(token) => {
-            print::number(0);
-            print::number(token);
+            bench_print::number(0);
+            bench_print::number(token);
         }
         Registered::Refused(refusal, given) => {
-            print::number(refusal);
-            print::number(given);
+            bench_print::number(refusal);
+            bench_print::number(given);
         }
     }
     end_line(q, a.used)
@@ -64,16 +63,16 @@ pub fn pop(section: u8, case: u64, p: Past, log: &mut [u64]) -> Past {
     let a = log_attempts::pop_recorded(before, log, p.used);
     let answer = a.answer;
     let q = a.queue;
-    print::start(section, case, b"pop");
+    bench_print::start(section, case, b"pop");
     match answer {
         Popped::Work(ticket, undo) => {
-            print::number(0);
-            print::number(ticket.token);
-            print::number(ticket.attempt);
-            print::number(undo);
+            bench_print::number(0);
+            bench_print::number(ticket.token);
+            bench_print::number(ticket.attempt);
+            bench_print::number(undo);
         }
-        Popped::Nothing => print::number(0),
-        Popped::Refused(refusal) => print::number(refusal),
+        Popped::Nothing => bench_print::number(0),
+        Popped::Refused(refusal) => bench_print::number(refusal),
     }
     end_line(q, a.used)
 }
@@ -98,12 +97,12 @@ pub fn complete(
     let a = log_attempts::complete_recorded(before, ticket, outcome, kept, log, p.used);
     let answer = a.answer;
     let q = a.queue;
-    print::start(section, case, b"complete");
+    bench_print::start(section, case, b"complete");
     match answer {
-        Completed::Settled => print::number(0),
+        Completed::Settled => bench_print::number(0),
         Completed::Refused(refusal, given) => {
-            print::number(refusal);
-            print::number(given);
+            bench_print::number(refusal);
+            bench_print::number(given);
         }
     }
     end_line(q, a.used)
@@ -114,14 +113,14 @@ pub fn retry(section: u8, case: u64, p: Past, log: &mut [u64]) -> Past {
     let a = log_attempts::retry_recorded(before, log, p.used);
     let answer = a.answer;
     let q = a.queue;
-    print::start(section, case, b"retry");
+    bench_print::start(section, case, b"retry");
     match answer {
         Retried::Again(ticket) => {
-            print::number(0);
-            print::number(ticket.token);
-            print::number(ticket.attempt);
+            bench_print::number(0);
+            bench_print::number(ticket.token);
+            bench_print::number(ticket.attempt);
         }
-        Retried::Refused(refusal) => print::number(refusal),
+        Retried::Refused(refusal) => bench_print::number(refusal),
     }
     end_line(q, a.used)
 }
@@ -130,17 +129,17 @@ pub fn retry(section: u8, case: u64, p: Past, log: &mut [u64]) -> Past {
 fn staged(section: u8, case: u64, call: &[u8], a: StageRecorded) -> Past {
     let answer = a.answer;
     let q = a.queue;
-    print::start(section, case, call);
+    bench_print::start(section, case, call);
     match answer {
         Told::Yes => {
-            print::number(0);
-            print::number(1);
+            bench_print::number(0);
+            bench_print::number(1);
         }
         Told::No => {
-            print::number(0);
-            print::number(0);
+            bench_print::number(0);
+            bench_print::number(0);
         }
-        Told::Refused(refusal) => print::number(refusal),
+        Told::Refused(refusal) => bench_print::number(refusal),
     }
     end_line(q, a.used)
 }
@@ -168,10 +167,10 @@ pub fn cancel(section: u8, case: u64, p: Past, log: &mut [u64]) -> Past {
     let a = log_stages::cancel_recorded(before, log, p.used);
     let answer = a.answer;
     let q = a.queue;
-    print::start(section, case, b"cancel");
+    bench_print::start(section, case, b"cancel");
     match answer {
-        Cancelled::Done => print::number(0),
-        Cancelled::Refused(refusal) => print::number(refusal),
+        Cancelled::Done => bench_print::number(0),
+        Cancelled::Refused(refusal) => bench_print::number(refusal),
     }
     end_line(q, a.used)
 }

@@ -1,7 +1,6 @@
 // Histories made by the recorded calls, read back; calls that change nothing write no row.
 use crate::calls;
 use crate::calls::Past;
-use crate::print;
 use crate::readings::ITERATOR;
 use crate::readings::SCOPE;
 use crate::readings::of_first_words;
@@ -13,7 +12,7 @@ use cleanup_queue::Kind;
 fn read_back(section: u8, p: Past, kind: Kind, first: u64, log: &[u64]) {
     let q = p.queue;
     let used = p.used;
-    print::start(section, used, b"left");
+    bench_print::start(section, used, b"left");
     state::say(q);
     if 4096 < used {
         return;
@@ -75,15 +74,15 @@ pub fn of_iterator() {
 }
 
 fn words(case: u64, log: &[u64; 7]) {
-    print::start(b'M', case, b"words");
-    print::number(log[0]);
-    print::number(log[1]);
-    print::number(log[2]);
-    print::number(log[3]);
-    print::number(log[4]);
-    print::number(log[5]);
-    print::number(log[6]);
-    print::line_end();
+    bench_print::start(b'M', case, b"words");
+    bench_print::number(log[0]);
+    bench_print::number(log[1]);
+    bench_print::number(log[2]);
+    bench_print::number(log[3]);
+    bench_print::number(log[4]);
+    bench_print::number(log[5]);
+    bench_print::number(log[6]);
+    bench_print::line_end();
 }
 
 // Every recorded call on a log of one row and a part, with as many rows used as the label says.

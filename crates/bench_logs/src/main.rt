@@ -2,7 +2,6 @@
 mod calls;
 mod histories;
 mod longest;
-mod print;
 mod readings;
 mod rows;
 mod rules;

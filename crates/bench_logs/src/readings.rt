@@ -1,5 +1,4 @@
 // A reading as a line: the number, the rows or the bad row's place, and the state.
-use crate::print;
 use crate::state;
 use cleanup_queue::Kind;
 use log_reader::Read;
@@ -14,15 +13,15 @@ pub const ITERATOR: u64 = 6;
 fn say(section: u8, case: u64, reading: Reading) {
     let answer = reading.answer;
     let q = reading.queue;
-    print::start(section, case, b"read");
+    bench_print::start(section, case, b"read");
     match answer {
         Read::Good(rows) => {
-            print::number(0);
-            print::number(rows);
+            bench_print::number(0);
+            bench_print::number(rows);
         }
         Read::Refused(refusal, place) => {
-            print::number(refusal);
-            print::number(place);
+            bench_print::number(refusal);
+            bench_print::number(place);
         }
     }
     state::say(q);

@@ -1,5 +1,4 @@
 // Rows put into a log by hand, and a log's rows as lines.
-use crate::print;
 use log_rows::Appended;
 use log_rows::Row;
 use log_rows::append;
@@ -16,13 +15,13 @@ pub fn put(log: &mut [u64], used: u64, row: Row) -> u64 {
 
 pub fn say_row(section: u8, case: u64, log: &[u64], place: usize) {
     let row = row_at(log, place);
-    print::start(section, case, b"row");
-    print::number(row.kind);
-    print::number(row.token);
-    print::number(row.attempt);
-    print::number(row.outcome);
-    print::number(row.number);
-    print::line_end();
+    bench_print::start(section, case, b"row");
+    bench_print::number(row.kind);
+    bench_print::number(row.token);
+    bench_print::number(row.attempt);
+    bench_print::number(row.outcome);
+    bench_print::number(row.number);
+    bench_print::line_end();
 }
 
 // The first twelve rows, or zeros where there are fewer.

@@ -1,5 +1,4 @@
 // A queue's state as words of a line: tokens, waiting, selected, issued, failed, next attempt, domain, phase.
-use crate::print;
 use cleanup_queue::Phase;
 use cleanup_queue::Queue;
 use cleanup_queue::Selection;
@@ -32,25 +31,25 @@ fn waiting(slots: &[u64; 64], selected: u64) -> u64 {
 
 fn phase(phase: Phase) {
     match phase {
-        Phase::Idle => print::word(b"idle"),
-        Phase::Pending => print::word(b"pending"),
-        Phase::Ended => print::word(b"ended"),
-        Phase::Stopping => print::word(b"stopping"),
-        Phase::Closed => print::word(b"closed"),
+        Phase::Idle => bench_print::word(b"idle"),
+        Phase::Pending => bench_print::word(b"pending"),
+        Phase::Ended => bench_print::word(b"ended"),
+        Phase::Stopping => bench_print::word(b"stopping"),
+        Phase::Closed => bench_print::word(b"closed"),
     }
 }
 
 pub fn say(q: Queue) {
     let selected = selected_token(q);
     let slots = q.slots;
-    print::number(q.count);
-    print::number(waiting(&slots, selected));
-    print::mark(selected != NO_TOKEN);
-    print::mark(q.issued);
-    print::mark(q.failed);
-    print::number(q.next);
-    print::number(q.domain);
+    bench_print::number(q.count);
+    bench_print::number(waiting(&slots, selected));
+    bench_print::mark(selected != NO_TOKEN);
+    bench_print::mark(q.issued);
+    bench_print::mark(q.failed);
+    bench_print::number(q.next);
+    bench_print::number(q.domain);
     let stage = q.phase;
     phase(stage);
-    print::line_end();
+    bench_print::line_end();
 }

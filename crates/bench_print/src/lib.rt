@@ -1,12 +1,12 @@
-// Words, numbers and line ends on standard output.
+// Words, numbers and line ends on standard output, as every program of cases writes them.
 use libc::STDOUT_FILENO;
 
-// A line starts with the case's label, a letter and a number, and the call.
-pub fn start(section: u8, case: u64, call: &[u8]) {
+// A line starts with the case's label, a letter and a number, and what is done or looked at.
+pub fn start(section: u8, case: u64, what: &[u8]) {
     let letter = [section];
     io::write_all(STDOUT_FILENO, &letter);
     io::print_decimal(STDOUT_FILENO, case);
-    word(call);
+    word(what);
 }
 
 pub fn word(text: &[u8]) {
@@ -24,6 +24,15 @@ pub fn numbers(list: &[u64]) {
     while i < list.len() {
         number(list[i]);
         i += 1;
+    }
+}
+
+// Yes is 1 and no is 0.
+pub fn mark(yes: bool) {
+    if yes {
+        number(1);
+    } else {
+        number(0);
     }
 }
 

@@ -2,8 +2,8 @@
 use Prim.Native.Nat.{_-_}
 use lib.ListN.{length}
 use borrow.Author.Needs.{needs}
-use Rattle.bench_cases.proofs.print.numbers.Statement.{statement}
-use Rattle.bench_cases.proofs.print.numbers.Tie as tie
+use Rattle.bench_print.proofs.numbers.Statement.{statement}
+use Rattle.bench_print.proofs.numbers.Tie as tie
 
 abbrev Inv-loop : tie.InvT-loop
 Inv-loop list i₀ i = Unit
