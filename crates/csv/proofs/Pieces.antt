@@ -26,9 +26,6 @@ piece-at text at piece rest i h = record {
   inside = let n : length text - at ≡ length piece + length rest = sym (length-drop at text) ∙ (ap length h ∙ length-append piece rest) in omega arith;
 }
 
-pub nothing-at : (text : List ℕ) (at : ℕ) → at ≤ length text → Piece text at [] at
-nothing-at text at i = record { stands = refl; behind = omega arith; inside = i }
-
 pub byte-at : (text : List ℕ) (at byte : ℕ) → holdsAt text at byte ≡ true → Piece text at (byte ∷ []) (at + 1)
 byte-at text at byte h = record { stands = holds-ahead text at byte h; behind = refl; inside = let i = holds-inside text at byte h in omega arith }
 

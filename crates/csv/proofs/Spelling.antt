@@ -85,7 +85,7 @@ pub data Ending : List ℕ → Type 0 where
   none : Ending []
   last : (bs : List ℕ) (b : ℕ) → Ending (bs ++ (b ∷ []))
 
-pub ending : (bs : List ℕ) → Ending bs
+ending : (bs : List ℕ) → Ending bs
 ending [] = none
 ending (b ∷ bs) = cons b (ending bs)
   where
@@ -93,7 +93,7 @@ ending (b ∷ bs) = cons b (ending bs)
     cons b none = last [] b
     cons b (last cs c) = last (b ∷ cs) c
 
-pub digits-init : (bs : List ℕ) (b : ℕ) → allDigits (bs ++ (b ∷ [])) ≡ true → (allDigits bs ≡ true) × (isDigit b ≡ true)
+digits-init : (bs : List ℕ) (b : ℕ) → allDigits (bs ++ (b ∷ [])) ≡ true → (allDigits bs ≡ true) × (isDigit b ≡ true)
 digits-init [] b h = (refl, and-left (isDigit b) true h)
 digits-init (x ∷ bs) b h =
     let k = digits-init bs b (and-right (isDigit x) (allDigits (bs ++ (b ∷ []))) h) in

@@ -1,6 +1,6 @@
 -- A log of 64-bit words in the language is left by calls whose inputs are 64-bit words
 use Prim.Native.Nat.{ℕ, _+_, _*_, _≤_}
-use mathlib.Core.Path.{_≡_, refl, sym, ap, _∙_, subst}
+use mathlib.Core.Path.{_≡_, refl, sym, ap, _∙_}
 use mathlib.Core.Logic.{⊎-elim}
 use mathlib.Core.Bool.{true}
 use mathlib.Core.List.{List, [], _∷_, _++_}
@@ -23,7 +23,7 @@ use Rattle.log_language.proofs.Core.{one-more-may}
 use Rattle.log_language.proofs.Lists.{snoc-ind, every-snoc}
 use Rattle.log_reader.specs.Reader.{openedAs}
 use Rattle.log_reader.proofs.Rightly.{iterator-open}
-use Rattle.history.specs.Histories.{Bench, bench, called, numberOf, Start, History, opens, calls, Made, none, one, rowsOf, openedQueue, opening}
+use Rattle.history.specs.Histories.{Bench, bench, called, numberOf, Start, History, opens, calls, Made, none, one, openedQueue, opening}
 use Rattle.history.specs.Fits.{isWord, fits, rowFits, LeftByFitting}
 use Rattle.history.proofs.Steps.{step}
 use Rattle.history.proofs.Spoken.{stands}
@@ -36,7 +36,7 @@ unfolding scopeOf iteratorOf
 opened-domain Scope domain first bindings e = refl
 opened-domain Iterator domain first bindings e = ap (λ (q : Queue). q .domain) (iterator-open domain first bindings [] e)
 
-pub history-domain : (s : Start) (b : Bench) → History s b → b .queue .domain ≡ s .domain
+history-domain : (s : Start) (b : Bench) → History s b → b .queue .domain ≡ s .domain
 history-domain s _ (opens e) = opened-domain (s .kind) (s .domain) (s .first) (s .bindings) e
 history-domain s _ (calls {b} h c a) = ⊎-elim (λ e. ap (λ (x : Bench). x .queue .domain) e) (λ w. ap (λ (x : Bench). x .queue .domain) (w .left) ∙ call-keeps-domain (b .queue) c) (step b (stands s b h .sound) c a) ∙ history-domain s b h
 

@@ -8,7 +8,7 @@ use lib.ListN.{length, take, drop, getD, set, length-append, length-drop}
 use lib.Seq.{paste, paste-suc, length-paste, take-length, length-take-le, take-at, drop-drop, drop-at}
 use Rattle.log_text.specs.Report.{pasted}
 
-pub paste-whole : (d : List ℕ) (at : ℕ) (s : List ℕ) → paste d at s (length s) ≡ pasted d at s
+paste-whole : (d : List ℕ) (at : ℕ) (s : List ℕ) → paste d at s (length s) ≡ pasted d at s
 unfolding pasted
 paste-whole d at s = append-assoc (take at d) (take (length s) s) (drop (at + length s) d) ∙ ap (λ (r : List ℕ). take at d ++ (r ++ drop (at + length s) d)) (take-length s)
 
@@ -30,7 +30,7 @@ pasted-length d at s h =
     omega arith
 
 -- a piece and the one behind it
-pub pasted-join : (d : List ℕ) (at : ℕ) (x y : List ℕ) → at + length (x ++ y) ≤ length d → pasted (pasted d at x) (at + length x) y ≡ pasted d at (x ++ y)
+pasted-join : (d : List ℕ) (at : ℕ) (x y : List ℕ) → at + length (x ++ y) ≤ length d → pasted (pasted d at x) (at + length x) y ≡ pasted d at (x ++ y)
 unfolding pasted
 pasted-join d at x y h =
     let l = length-append x y in

@@ -20,7 +20,7 @@ and-behind : (a b c : Bool) → ((a && b) && c) ≡ (a && (b && c))
 and-behind true b c = refl
 and-behind false b c = refl
 
-pub two-parts : (q : Queue) → wellFormed q ≡ (placesFit q && selectionFits q)
+two-parts : (q : Queue) → wellFormed q ≡ (placesFit q && selectionFits q)
 unfolding wellFormed placesFit selectionFits
 two-parts q = sym (
     and-behind (tokensFit (q .count)) (bindingsFit (q .bound) && (restZero (q .count) (q .slots) && (restZero (q .bound) (q .bindings) && scopeFits (q .kind) (q .bound) (q .phase)))) (selectionFits q) ∙ ap (λ (b : Bool). tokensFit (q .count) && b) (
@@ -49,7 +49,7 @@ module _ (ws : List ℕ) where
 
 -- ---- the clauses on the selection, as the words say it
 -- the ticket that the words hold
-abbrev pub ticketIn : List ℕ → Ticket
+abbrev ticketIn : List ℕ → Ticket
 ticketIn ws = ticketOf (word ws 69) (word ws 70) (word ws 71)
 
 module _ (ws : List ℕ) where

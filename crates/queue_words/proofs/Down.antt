@@ -35,11 +35,11 @@ last-full k (x ∷ xs) (suc i) f h n =
     let s : suc k + i ≡ k + suc i = omega arith in
     by-first (λ (ks : List ℕ). lastOr f ks ≡ At (k + suc i)) k x xs (λ _. last-full (suc k) xs i f h n ∙ ap At s) (λ _. last-full (suc k) xs i (At k) h n ∙ ap At s)
 
-pub found-last : (xs : List ℕ) (i : ℕ) → restZero (i + 1) xs ≡ true → (getD xs i 0 ≡ 0 → ⊥) → newest (occupied 0 xs) ≡ At i
+found-last : (xs : List ℕ) (i : ℕ) → restZero (i + 1) xs ≡ true → (getD xs i 0 ≡ 0 → ⊥) → newest (occupied 0 xs) ≡ At i
 unfolding newest
 found-last xs i h n = let s : 0 + i ≡ i = omega arith in last-full 0 xs i Missing (rw add-one at h) n ∙ ap At s
 
-pub found-none : (xs : List ℕ) → restZero 0 xs ≡ true → newest (occupied 0 xs) ≡ Missing
+found-none : (xs : List ℕ) → restZero 0 xs ≡ true → newest (occupied 0 xs) ≡ Missing
 unfolding newest
 found-none xs h = last-zeros 0 xs Missing h
 

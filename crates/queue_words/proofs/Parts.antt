@@ -54,10 +54,6 @@ mark-again n h = up-to-1 (λ (n : ℕ). markWord (markAt n) ≡ n) refl refl n h
 pub phase-again : (n : ℕ) → n ≤ 4 → phaseNumber (phaseAt n) ≡ n
 phase-again n h = up-to-4 (λ (n : ℕ). phaseNumber (phaseAt n) ≡ n) refl refl refl refl refl n h
 
--- a mark that is not set is 0
-pub mark-unset : (n : ℕ) → n ≤ 1 → (n ≡ 1 → ⊥) → n ≡ 0
-mark-unset n h u = up-to-1 (λ (n : ℕ). (n ≡ 1 → ⊥) → n ≡ 0) (λ _. refl) (λ u. absurd (u refl)) n h u
-
 -- the four words of a selection
 module _ (d t a : ℕ) where
   pub record Selected (s : ℕ) : Type 0 where

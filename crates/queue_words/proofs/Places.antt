@@ -15,7 +15,7 @@ set-append-add [] ys j v = rw zero-add
 set-append-add (x ∷ xs) ys j v = rw suc-add (ap (λ (l : List ℕ). x ∷ l) (set-append-add xs ys j v))
 
 -- the words up to the slots, with others behind them
-abbrev pub infront : Queue → List ℕ → List ℕ
+abbrev infront : Queue → List ℕ → List ℕ
 infront q ys = kindWord (q .kind) ∷ q .domain ∷ q .next ∷ (q .slots ++ ys)
 
 module _ (q : Queue) (l : length (q .slots) ≡ 64) where

@@ -34,7 +34,7 @@ unfoldable pub movedIn : List ℕ → Bool → Phase → Exported
 movedIn ws told phase = saidIn (set ws 74 (phaseNumber phase)) told
 
 -- ---- the openings: all 92 words are written
-abbrev pub zeroWords : List ℕ
+abbrev zeroWords : List ℕ
 zeroWords = replicate 92 0
 
 abbrev pub scopeIn : ℕ → ℕ → List ℕ

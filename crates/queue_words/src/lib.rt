@@ -6,7 +6,6 @@ mod search;
 mod steps;
 
 pub use check::sound;
-pub use decoding::kind_at;
 pub use decoding::selection_at;
 pub use decoding::ticket_at;
 pub use questions::finish_allowed;

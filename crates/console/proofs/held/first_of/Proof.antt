@@ -2,7 +2,6 @@
 use mathlib.Core.Path.{sym}
 use lib.Seq.{length-take-le}
 use native.Mathlib.Omega.{arith}
-use borrow.Author.Needs.{needs}
 use Rattle.console.proofs.held.first_of.Statement.{statement}
 use Rattle.console.proofs.held.first_of.Tie as tie
 

@@ -27,10 +27,14 @@ gather-spec =
     (λ c. search needs)
     (λ c. search needs)
     (λ c. search needs)
-    (λ c. let l : length (set (c .before .before .before .before .before .before .before .loop .line) (c .before .before .before .before .before .before .before .loop .count) (c .before .before .next .given .0 .0)) ≡ length (c .before .before .before .before .before .before .before .loop .line) = length-set (c .before .before .before .before .before .before .before .loop .line) (c .before .before .before .before .before .before .before .loop .count) (c .before .before .next .given .0 .0) in (omega arith, l ∙ c .before .before .before .before .before .before .before .loop .inv .1))
+    (λ c.
+    let at-loop = c .before .before .before .before .before .before .before .loop in
+    let l : length (set (at-loop .line) (at-loop .count) (c .before .before .next .given .0 .0)) ≡ length (at-loop .line) = length-set (at-loop .line) (at-loop .count) (c .before .before .next .given .0 .0) in (omega arith, l ∙ at-loop .inv .1))
     (λ c. search needs)
     (λ c. counts _ _ (c .before .loop .inv .0))
     (λ c. search needs)
     (λ c. counts _ _ (c .before .before .before .before .before .loop .inv .0))
     (λ c. search needs)
-    (λ c. let l : length (set (c .before .before .before .before .before .before .before .loop .line) (c .before .before .before .before .before .before .before .loop .count) (c .before .before .next .given .0 .0)) ≡ length (c .before .before .before .before .before .before .before .loop .line) = length-set (c .before .before .before .before .before .before .before .loop .line) (c .before .before .before .before .before .before .before .loop .count) (c .before .before .next .given .0 .0) in counts _ _ (omega arith)))
+    (λ c.
+    let at-loop = c .before .before .before .before .before .before .before .loop in
+    let l : length (set (at-loop .line) (at-loop .count) (c .before .before .next .given .0 .0)) ≡ length (at-loop .line) = length-set (at-loop .line) (at-loop .count) (c .before .before .next .given .0 .0) in counts _ _ (omega arith)))

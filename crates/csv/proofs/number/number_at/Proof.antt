@@ -23,4 +23,6 @@ number-at-spec =
     (λ c. search needs)
     (λ c κs. search needs)
     (λ c κs. search needs)
-    (λ c. (c .more-digits .ensures) ∙ (ap (λ d. moreDigits d ((c .before .before .before .before .before .before .before .before .args .at) + 1) (drop ((c .before .before .before .before .before .before .before .before .args .at) + 1) (c .before .before .before .before .before .before .before .before .args .text .now))) (c .before .digit-of .ensures) ∙ sym (miss _ (lt-leb _ _ (c .before .before .before .before .before .before .if1 .left)) ∙ (hit _ (sym (c .before .before .before .before .is-digit .ensures) ∙ not-false _ (c .before .before .before .if2 .left)) ∙ miss _ (ne-eqb _ _ (c .before .before .if3 .left)))))))
+    (λ c.
+    let a = c .before .before .before .before .before .before .before .before .args in
+    (c .more-digits .ensures) ∙ (ap (λ d. moreDigits d ((a .at) + 1) (drop ((a .at) + 1) (a .text .now))) (c .before .digit-of .ensures) ∙ sym (miss _ (lt-leb _ _ (c .before .before .before .before .before .before .if1 .left)) ∙ (hit _ (sym (c .before .before .before .before .is-digit .ensures) ∙ not-false _ (c .before .before .before .if2 .left)) ∙ miss _ (ne-eqb _ _ (c .before .before .if3 .left)))))))

@@ -1,8 +1,6 @@
 -- Refused with 1 or 10, with 13, or freed
 use mathlib.Core.Path.{_≡_, sym, ap, _∙_}
-use mathlib.Core.Bool.{not}
 use lib.ListN.{length, length-map}
-use borrow.Author.Tests.{not-true, not-false}
 use Rattle.stage.proofs.Ways.{hit, miss, negated}
 use Rattle.group_record.specs.Record.{withPlace}
 use Rattle.group_asking.specs.Questions.{drained}

@@ -1,5 +1,4 @@
 -- Refused, or a scope is put in
-use Prim.Native.Nat.{_+_, _≤_}
 use mathlib.Core.Path.{sym, ap, _∙_}
 use Rattle.queue_record.specs.declared.record.Queue.{Queue}
 use Rattle.group_lives.specs.Openings.{added, addedScopeBy, addedScope}

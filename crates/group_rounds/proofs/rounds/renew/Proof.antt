@@ -13,6 +13,10 @@ renew-spec =
     tie.close
     (tie.spec
     (λ c. sym (miss _ (stop _ (not-true (c .before .before .args .place .live) (c .if1 .taken)))))
-    (λ c. sym (miss _ (pass _ (not-false (c .before .before .before .before .before .args .place .live) (c .before .before .before .if1 .left)) ∙ not-true (c .before .before .before .before .before .args .place .queue .failed) (c .if2 .taken))))
+    (λ c.
+    let a = c .before .before .before .before .before .args in
+    sym (miss _ (pass _ (not-false (a .place .live) (c .before .before .before .if1 .left)) ∙ not-true (a .place .queue .failed) (c .if2 .taken))))
     (λ c κs. search needs)
-    (λ c. ap (λ (s : RetryAnswer). holding (c .before .before .before .before .before .before .before .args .place) (s .queue)) (c .before .retry .ensures) ∙ sym (hit _ (pass _ (not-false (c .before .before .before .before .before .before .before .args .place .live) (c .before .before .before .before .before .if1 .left)) ∙ not-false (c .before .before .before .before .before .before .before .args .place .queue .failed) (c .before .before .if2 .left)))))
+    (λ c.
+    let a = c .before .before .before .before .before .before .before .args in
+    ap (λ (s : RetryAnswer). holding (a .place) (s .queue)) (c .before .retry .ensures) ∙ sym (hit _ (pass _ (not-false (a .place .live) (c .before .before .before .before .before .if1 .left)) ∙ not-false (a .place .queue .failed) (c .before .before .if2 .left)))))

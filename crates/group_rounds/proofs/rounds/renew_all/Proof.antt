@@ -1,7 +1,6 @@
 -- Halfway at each place
-use Prim.Native.Nat.{_-_, _≤_}
-use mathlib.Core.Path.{_≡_, sym, ap, _∙_}
-use mathlib.Core.List.{List}
+use Prim.Native.Nat.{_-_}
+use mathlib.Core.Path.{_≡_, ap, _∙_}
 use lib.ListN.{length, length-map, set}
 use Rattle.group_record.specs.Record.{withPlace, withPlaces}
 use Rattle.group_record.specs.declared.record.Place.{Place}

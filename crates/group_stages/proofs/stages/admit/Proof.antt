@@ -31,5 +31,9 @@ admit-spec =
     (λ c κs. spot-below _ _ _ (sixteen (c .before .before .before .before .before)) (sym (c .before .before .before .look-up .ensures) ∙ (c .before .spot2 .given .1)))
     (λ c κs. search needs)
     (λ c κs. spot-below _ _ _ (sixteen (c .before .before .before .before .before .before .before .before)) (sym (c .before .before .before .before .before .before .look-up .ensures) ∙ (c .before .before .before .before .spot2 .given .1)))
-    (λ c. sym (ap (admittedAt (c .before .before .before .before .before .args .g) (now (c .before .before .before .before .before .args .target))) (sym (c .before .before .before .look-up .ensures) ∙ (c .before .spot .given .1))))
-    (λ c. ap (answered _) (c .put-queue .ensures) ∙ (ap (movedAt (c .before .before .before .before .before .before .before .before .before .args .g) _) ((c .before .before .admit .ensures) ∙ ap (λ (q : Queue). admitted q (matches q (now (c .before .before .before .before .before .before .before .before .before .args .target)))) (c .before .before .before .queue-at .ensures)) ∙ sym (ap (admittedAt (c .before .before .before .before .before .before .before .before .before .args .g) (now (c .before .before .before .before .before .before .before .before .before .args .target))) (sym (c .before .before .before .before .before .before .before .look-up .ensures) ∙ (c .before .before .before .before .before .spot2 .given .1))))))
+    (λ c.
+    let a = c .before .before .before .before .before .args in
+    sym (ap (admittedAt (a .g) (now (a .target))) (sym (c .before .before .before .look-up .ensures) ∙ (c .before .spot .given .1))))
+    (λ c.
+    let a = c .before .before .before .before .before .before .before .before .before .args in
+    ap (answered _) (c .put-queue .ensures) ∙ (ap (movedAt (a .g) _) ((c .before .before .admit .ensures) ∙ ap (λ (q : Queue). admitted q (matches q (now (a .target)))) (c .before .before .before .queue-at .ensures)) ∙ sym (ap (admittedAt (a .g) (now (a .target))) (sym (c .before .before .before .before .before .before .before .look-up .ensures) ∙ (c .before .before .before .before .before .spot2 .given .1))))))

@@ -30,4 +30,6 @@ complete-spec =
     (λ c κs. search needs)
     (λ c κs. spot-below _ _ _ (sixteen (c .before .before .before .before .before .before .before)) (sym (c .before .before .before .before .before .before .look-up .ensures) ∙ (c .before .before .before .before .spot2 .given .1)))
     (λ c. sym (ap (completedAt (c .before .before .before .before .args .g) (c .before .before .before .before .args .ticket) (c .before .before .before .before .args .outcome) (c .before .before .before .before .args .kept)) (sym (c .before .before .before .look-up .ensures) ∙ (c .before .spot .given .1))))
-    (λ c. ap (answered _) (c .put-queue .ensures) ∙ (ap (settledAt (c .before .before .before .before .before .before .before .before .args .g) _) ((c .before .before .complete .ensures) ∙ ap (λ (q : Queue). completed q (c .before .before .before .before .before .before .before .before .args .ticket) (c .before .before .before .before .before .before .before .before .args .outcome) (c .before .before .before .before .before .before .before .before .args .kept)) (c .before .before .before .queue-at .ensures)) ∙ sym (ap (completedAt (c .before .before .before .before .before .before .before .before .args .g) (c .before .before .before .before .before .before .before .before .args .ticket) (c .before .before .before .before .before .before .before .before .args .outcome) (c .before .before .before .before .before .before .before .before .args .kept)) (sym (c .before .before .before .before .before .before .before .look-up .ensures) ∙ (c .before .before .before .before .before .spot2 .given .1))))))
+    (λ c.
+    let a = c .before .before .before .before .before .before .before .before .args in
+    ap (answered _) (c .put-queue .ensures) ∙ (ap (settledAt (a .g) _) ((c .before .before .complete .ensures) ∙ ap (λ (q : Queue). completed q (a .ticket) (a .outcome) (a .kept)) (c .before .before .before .queue-at .ensures)) ∙ sym (ap (completedAt (a .g) (a .ticket) (a .outcome) (a .kept)) (sym (c .before .before .before .before .before .before .before .look-up .ensures) ∙ (c .before .before .before .before .before .spot2 .given .1))))))

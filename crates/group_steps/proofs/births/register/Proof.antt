@@ -30,4 +30,6 @@ register-spec =
     (λ c κs. search needs)
     (λ c κs. spot-below _ _ _ (sixteen (c .before .before .before .before .before .before .before)) (sym (c .before .before .before .before .before .before .look-up .ensures) ∙ (c .before .before .before .before .spot2 .given .1)))
     (λ c. sym (ap (registeredAt (c .before .before .before .before .args .g) (c .before .before .before .before .args .number)) (sym (c .before .before .before .look-up .ensures) ∙ (c .before .spot .given .1))))
-    (λ c. ap (answered _) (c .put-queue .ensures) ∙ (ap (bornAt (c .before .before .before .before .before .before .before .before .args .g) _) ((c .before .before .register .ensures) ∙ ap (λ (q : Queue). registered q (c .before .before .before .before .before .before .before .before .args .number)) (c .before .before .before .queue-at .ensures)) ∙ sym (ap (registeredAt (c .before .before .before .before .before .before .before .before .args .g) (c .before .before .before .before .before .before .before .before .args .number)) (sym (c .before .before .before .before .before .before .before .look-up .ensures) ∙ (c .before .before .before .before .before .spot2 .given .1))))))
+    (λ c.
+    let a = c .before .before .before .before .before .before .before .before .args in
+    ap (answered _) (c .put-queue .ensures) ∙ (ap (bornAt (a .g) _) ((c .before .before .register .ensures) ∙ ap (λ (q : Queue). registered q (a .number)) (c .before .before .before .queue-at .ensures)) ∙ sym (ap (registeredAt (a .g) (a .number)) (sym (c .before .before .before .before .before .before .before .look-up .ensures) ∙ (c .before .before .before .before .before .spot2 .given .1))))))

@@ -15,6 +15,13 @@ report-spec =
     (λ c. search needs)
     (λ c κs. search needs)
     (λ c. search needs)
-    (λ c κs. last-fits (c .before .before .before .before .before .before .before .before .before .before .before .before .before .args .f) (c .before .before .before .before .before .before .before .before .before .before .before .before .before .args .out .now) (c .before .before .before .before .before .before .before .before .before .before .before .before .before .pre) _ _ _ _ ((c .before .before .before .before .before .before .before .before .before .put .ensures) .0) ((c .before .before .before .before .before .before .before .before .before .put .ensures) .1) ((c .before .before .before .before .put-fields .ensures) .0) ((c .before .before .before .before .put-fields .ensures) .1))
+    (λ c κs.
+    let a = c .before .before .before .before .before .before .before .before .before .before .before .before .before .args in
+    let at-put = c .before .before .before .before .before .before .before .before .before .put in
+    last-fits (a .f) (a .out .now) (c .before .before .before .before .before .before .before .before .before .before .before .before .before .pre) _ _ _ _ ((at-put .ensures) .0) ((at-put .ensures) .1) ((c .before .before .before .before .put-fields .ensures) .0) ((c .before .before .before .before .put-fields .ensures) .1))
     (λ c. search needs)
-    (λ c. reported (c .before .before .before .before .before .before .before .before .before .before .before .before .before .before .before .before .args .f) (c .before .before .before .before .before .before .before .before .before .before .before .before .before .before .before .before .args .out .now) (c .before .before .before .before .before .before .before .before .before .before .before .before .before .before .before .before .pre) _ _ _ _ ((c .before .before .before .before .before .before .before .before .before .before .before .before .put .ensures) .0) ((c .before .before .before .before .before .before .before .before .before .before .before .before .put .ensures) .1) ((c .before .before .before .before .before .before .before .put-fields .ensures) .0) ((c .before .before .before .before .before .before .before .put-fields .ensures) .1) _ _ ((c .before .before .put-number .ensures) .0) ((c .before .before .put-number .ensures) .1)))
+    (λ c.
+    let a = c .before .before .before .before .before .before .before .before .before .before .before .before .before .before .before .before .args in
+    let at-put = c .before .before .before .before .before .before .before .before .before .before .before .before .put in
+    let at-put-fields = c .before .before .before .before .before .before .before .put-fields in
+    reported (a .f) (a .out .now) (c .before .before .before .before .before .before .before .before .before .before .before .before .before .before .before .before .pre) _ _ _ _ ((at-put .ensures) .0) ((at-put .ensures) .1) ((at-put-fields .ensures) .0) ((at-put-fields .ensures) .1) _ _ ((c .before .before .put-number .ensures) .0) ((c .before .before .put-number .ensures) .1)))

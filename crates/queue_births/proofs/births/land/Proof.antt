@@ -27,4 +27,6 @@ land-spec =
     (λ c κs. search needs)
     (λ c κs. search needs)
     (λ c κs. search needs)
-    (λ c. ap (born (c .before .before .before .before .before .before .before .before .before .before .args .q)) ((c .move-to .ensures) ∙ (ap (λ (b : Queue). withPhase b (c .before .next-phase .result)) (c .before .before .grow .ensures) ∙ ap (withPhase (grown (c .before .before .before .before .before .before .before .before .before .before .args .q) (c .before .before .before .before .before .before .before .before .before .before .args .number))) (c .before .next-phase .ensures))) ∙ sym (miss _ (negated (c .before .before .before .before .before .before .before .before .before .well-formed .ensures) (c .before .before .before .before .before .before .before .before .if1 .left)) ∙ (miss _ (ne-eqb _ _ (c .before .before .before .before .before .before .before .if2 .left)) ∙ (miss _ (negated (c .before .before .before .before .before .before .pending .ensures) (c .before .before .before .before .before .if3 .left)) ∙ miss _ (lt-leb _ _ (c .before .before .before .if4 .left)))))))
+    (λ c.
+    let a = c .before .before .before .before .before .before .before .before .before .before .args in
+    ap (born (a .q)) ((c .move-to .ensures) ∙ (ap (λ (b : Queue). withPhase b (c .before .next-phase .result)) (c .before .before .grow .ensures) ∙ ap (withPhase (grown (a .q) (a .number))) (c .before .next-phase .ensures))) ∙ sym (miss _ (negated (c .before .before .before .before .before .before .before .before .before .well-formed .ensures) (c .before .before .before .before .before .before .before .before .if1 .left)) ∙ (miss _ (ne-eqb _ _ (c .before .before .before .before .before .before .before .if2 .left)) ∙ (miss _ (negated (c .before .before .before .before .before .before .pending .ensures) (c .before .before .before .before .before .if3 .left)) ∙ miss _ (lt-leb _ _ (c .before .before .before .if4 .left)))))))

@@ -21,4 +21,6 @@ may-finish-spec =
     (λ c κs. search needs)
     (λ c. search needs)
     (λ c κs. search needs)
-    (λ c. (c .same-set .ensures .0) ∙ sym (ap (λ (s : Selection). finishable s ((c .before .before .before .before .before .before .before .before .before .args .phase)) (now (c .before .before .before .before .before .before .before .before .before .args .target)) (now (c .before .before .before .before .before .before .before .before .before .args .committed))) (c .before .before .before .before .before .enum-told .given .1) ∙ (pass _ (ap not (sym (c .before .before .before .before .pending .ensures) ∙ (c .before .before .before .if1 .left))) ∙ pass _ (ap not (sym (c .before .before .cancelled .ensures) ∙ (c .before .if2 .left)))))))
+    (λ c.
+    let a = c .before .before .before .before .before .before .before .before .before .args in
+    (c .same-set .ensures .0) ∙ sym (ap (λ (s : Selection). finishable s ((a .phase)) (now (a .target)) (now (a .committed))) (c .before .before .before .before .before .enum-told .given .1) ∙ (pass _ (ap not (sym (c .before .before .before .before .pending .ensures) ∙ (c .before .before .before .if1 .left))) ∙ pass _ (ap not (sym (c .before .before .cancelled .ensures) ∙ (c .before .if2 .left)))))))

@@ -21,7 +21,9 @@ admit-spec =
     (λ c κs. search needs)
     (λ c. (c .stage-refused .ensures) ∙ sym (hit _ (negated (c .before .before .well-formed .ensures) (c .before .if1 .taken))))
     (λ c. let l : length ((c .before .before .before .before .args .q) .bindings) ≡ 16 = search needs in let b : (c .before .before .before .before .args .q) .bound ≤ 16 = fit (c .before .before .before .before .args .q) (sym (c .before .before .well-formed .ensures) ∙ not-false _ (c .before .if1 .left)) .given .bound in omega arith)
-    (λ c. let l : length ((c .before .before .before .before .before .args .q) .bindings) ≡ 16 = search needs in let b : (c .before .before .before .before .before .args .q) .bound ≤ 16 = fit (c .before .before .before .before .before .args .q) (sym (c .before .before .before .well-formed .ensures) ∙ not-false _ (c .before .before .if1 .left)) .given .bound in sym (length-take-le ((c .before .before .before .before .before .args .q) .bound) ((c .before .before .before .before .before .args .q) .bindings) (omega arith)))
+    (λ c.
+    let a = c .before .before .before .before .before .args in
+    let l : length ((a .q) .bindings) ≡ 16 = search needs in let b : (a .q) .bound ≤ 16 = fit (a .q) (sym (c .before .before .before .well-formed .ensures) ∙ not-false _ (c .before .before .if1 .left)) .given .bound in sym (length-take-le ((a .q) .bound) ((a .q) .bindings) (omega arith)))
     (λ c κs. search needs)
     (λ c κs. search needs)
     (λ c. (c .admit-by .ensures) ∙ (ap (admittedBy (c .before .before .before .before .before .before .before .args .q)) (c .before .same-set .ensures .0) ∙ sym (miss _ (negated (c .before .before .before .before .before .well-formed .ensures) (c .before .before .before .before .if1 .left))))))

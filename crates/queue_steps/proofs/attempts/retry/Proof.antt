@@ -30,5 +30,7 @@ retry-spec =
     (λ c κs. search needs)
     (λ c. (c .retry-refused3 .ensures) ∙ sym (miss _ (negated (c .before .before .before .before .before .before .before .before .well-formed .ensures) (c .before .before .before .before .before .before .before .if1 .left)) ∙ (ap (retriedBy (c .before .before .before .before .before .before .before .before .before .args .t1)) (c .before .before .before .before .before .selection .given .1) ∙ hit _ (negated (c .before .before .may-retry .ensures) (c .before .if2 .taken)))))
     (λ c κs. search needs)
-    (λ c. let b : (c .before .before .before .before .before .before .before .before .before .args .t1) .next < 18446744073709551615 = retry-room ((c .before .before .before .before .before .before .before .before .before .args .t1) .failed) (getD ((c .before .before .before .before .before .before .before .before .before .args .t1) .slots) ((c .before .before .before .before .before .selection .given .0 .0) .token) 0) ((c .before .before .before .before .before .before .before .before .before .args .t1) .next) (sym (c .before .before .may-retry .ensures) ∙ not-false _ (c .before .if2 .left)) in omega arith)
+    (λ c.
+    let a = c .before .before .before .before .before .before .before .before .before .args in
+    let b : (a .t1) .next < 18446744073709551615 = retry-room ((a .t1) .failed) (getD ((a .t1) .slots) ((c .before .before .before .before .before .selection .given .0 .0) .token) 0) ((a .t1) .next) (sym (c .before .before .may-retry .ensures) ∙ not-false _ (c .before .if2 .left)) in omega arith)
     (λ c. rw ((c .select .ensures)) (sym (miss _ (negated (c .before .before .before .before .before .before .before .before .well-formed .ensures) (c .before .before .before .before .before .before .before .if1 .left)) ∙ (ap (retriedBy (c .before .before .before .before .before .before .before .before .before .args .t1)) (c .before .before .before .before .before .selection .given .1) ∙ miss _ (negated (c .before .before .may-retry .ensures) (c .before .if2 .left)))))))

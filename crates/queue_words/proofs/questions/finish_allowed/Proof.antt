@@ -27,4 +27,6 @@ finish-allowed-spec =
     (λ c. search needs)
     (λ c. search needs)
     (λ c κs. search needs)
-    (λ c. rw ((c .may-finish .ensures), (c .before .before .before .before .before .before .selection-at .ensures), (c .before .before .before .before .phase-at .ensures)) (ap (λ (l : List ℕ). finishable (selectionIn (c .before .before .before .before .before .before .before .before .before .before .before .before .args .w .now)) (phaseAt (word (c .before .before .before .before .before .before .before .before .before .before .before .before .args .w .now) 74)) (c .before .before .before .before .before .before .before .before .before .before .before .before .args .target .now) l) (committed-words (c .before .before .before .before .before .before .before .before .before .before .before .before .args .w .now) (c .before .before .before .before .before .before .before .before .before .before .before .before .pre)))))
+    (λ c.
+    let a = c .before .before .before .before .before .before .before .before .before .before .before .before .args in
+    rw ((c .may-finish .ensures), (c .before .before .before .before .before .before .selection-at .ensures), (c .before .before .before .before .phase-at .ensures)) (ap (λ (l : List ℕ). finishable (selectionIn (a .w .now)) (phaseAt (word (a .w .now) 74)) (a .target .now) l) (committed-words (a .w .now) (c .before .before .before .before .before .before .before .before .before .before .before .before .pre)))))

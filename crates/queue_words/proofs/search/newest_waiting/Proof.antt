@@ -30,7 +30,11 @@ newest-waiting-spec =
     (λ c. omega (arith, (c .before .loop .inv .0)))
     (λ c. omega (arith, (c .before .loop .inv .0)))
     (λ c. omega (arith, (c .before .loop .inv .0)))
-    (λ c. let l : length (c .before .before .before .before .before .args .w .now) ≡ 92 = sound-length (c .before .before .before .before .before .args .w .now) (c .before .before .before .before .before .pre) in sym (down-found (c .before .before .before .before .before .args .w .now) (c .before .before .before .loop .left) l (c .before .before .before .loop .inv .0) (c .before .before .loop-test .taken) (c .before .before .before .loop .inv .1) (c .if1 .taken)))
+    (λ c.
+    let a = c .before .before .before .before .before .args in
+    let l : length (a .w .now) ≡ 92 = sound-length (a .w .now) (c .before .before .before .before .before .pre) in sym (down-found (a .w .now) (c .before .before .before .loop .left) l (c .before .before .before .loop .inv .0) (c .before .before .loop-test .taken) (c .before .before .before .loop .inv .1) (c .if1 .taken)))
     (λ c. omega arith)
-    (λ c. let l : length (c .before .before .before .before .before .args .w .now) ≡ 92 = sound-length (c .before .before .before .before .before .args .w .now) (c .before .before .before .before .before .pre) in (omega (arith, (c .before .before .before .loop .inv .0)), down-pass (c .before .before .before .before .before .args .w .now) (c .before .before .before .loop .left) l (c .before .before .before .loop .inv .0) (c .before .before .loop-test .taken) (c .before .before .before .loop .inv .1) (c .if1 .left)))
+    (λ c.
+    let a = c .before .before .before .before .before .args in
+    let l : length (a .w .now) ≡ 92 = sound-length (a .w .now) (c .before .before .before .before .before .pre) in (omega (arith, (c .before .before .before .loop .inv .0)), down-pass (a .w .now) (c .before .before .before .loop .left) l (c .before .before .before .loop .inv .0) (c .before .before .loop-test .taken) (c .before .before .before .loop .inv .1) (c .if1 .left)))
     (λ c. sym (down-none (c .before .before .before .args .w .now) (c .before .loop .left) (c .loop-test .left) (c .before .loop .inv .1))))

@@ -15,5 +15,9 @@ register-in-spec =
     (λ c κs. search needs)
     (λ c. sym (register-birth (c .before .before .before .before .args .queue .now) ((c .before .before .before .before) .pre) (c .before .before .before .before .args .number) _ (c .before .before .register-refusal .ensures) .refuses (c .before .if1 .taken)))
     (λ c. search needs)
-    (λ c κs. register-birth (c .before .before .before .before .before .before .args .queue .now) ((c .before .before .before .before .before .before) .pre) (c .before .before .before .before .before .before .args .number) _ (c .before .before .before .before .register-refusal .ensures) .place (c .before .before .before .if1 .left))
-    (λ c. ap (exported done (answerOf 1 (word (c .before .before .before .before .before .before .before .args .queue .now) 67))) (c .grow .ensures) ∙ sym (register-birth (c .before .before .before .before .before .before .before .args .queue .now) ((c .before .before .before .before .before .before .before) .pre) (c .before .before .before .before .before .before .before .args .number) _ (c .before .before .before .before .before .register-refusal .ensures) .answers (c .before .before .before .before .if1 .left))))
+    (λ c κs.
+    let a = c .before .before .before .before .before .before .args in
+    register-birth (a .queue .now) ((c .before .before .before .before .before .before) .pre) (a .number) _ (c .before .before .before .before .register-refusal .ensures) .place (c .before .before .before .if1 .left))
+    (λ c.
+    let a = c .before .before .before .before .before .before .before .args in
+    ap (exported done (answerOf 1 (word (a .queue .now) 67))) (c .grow .ensures) ∙ sym (register-birth (a .queue .now) ((c .before .before .before .before .before .before .before) .pre) (a .number) _ (c .before .before .before .before .before .register-refusal .ensures) .answers (c .before .before .before .before .if1 .left))))

@@ -13,6 +13,12 @@ complete-in-spec =
     (tie.spec
     (λ c κs. search needs)
     (λ c κs. search needs)
-    (λ c. sym (complete-no (c .before .before .before .before .before .args .queue .now) ((c .before .before .before .before .before) .pre) _ (c .before .before .before .before .before .args .outcome) (c .before .before .before .before .before .args .kept) _ (c .before .before .complete-refusal .ensures) (c .before .before .before .before .before .args .ticket .now) (c .before .before .before .before .ticket-at .ensures) (c .before .if1 .taken)))
-    (λ c κs. settle-place (c .before .before .before .before .before .before .args .queue .now) ((c .before .before .before .before .before .before) .pre) _ (c .before .before .before .before .before .before .args .outcome) (c .before .before .before .before .before .before .args .kept) _ (c .before .before .before .complete-refusal .ensures) (c .before .before .if1 .left))
-    (λ c. ap (exported done (answerOf 1 0)) (c .settle .ensures) ∙ sym (complete-yes (c .before .before .before .before .before .before .before .args .queue .now) ((c .before .before .before .before .before .before .before) .pre) _ (c .before .before .before .before .before .before .before .args .outcome) (c .before .before .before .before .before .before .before .args .kept) _ (c .before .before .before .before .complete-refusal .ensures) (c .before .before .before .before .before .before .before .args .ticket .now) (c .before .before .before .before .before .before .ticket-at .ensures) (c .before .before .before .if1 .left))))
+    (λ c.
+    let a = c .before .before .before .before .before .args in
+    sym (complete-no (a .queue .now) ((c .before .before .before .before .before) .pre) _ (a .outcome) (a .kept) _ (c .before .before .complete-refusal .ensures) (a .ticket .now) (c .before .before .before .before .ticket-at .ensures) (c .before .if1 .taken)))
+    (λ c κs.
+    let a = c .before .before .before .before .before .before .args in
+    settle-place (a .queue .now) ((c .before .before .before .before .before .before) .pre) _ (a .outcome) (a .kept) _ (c .before .before .before .complete-refusal .ensures) (c .before .before .if1 .left))
+    (λ c.
+    let a = c .before .before .before .before .before .before .before .args in
+    ap (exported done (answerOf 1 0)) (c .settle .ensures) ∙ sym (complete-yes (a .queue .now) ((c .before .before .before .before .before .before .before) .pre) _ (a .outcome) (a .kept) _ (c .before .before .before .before .complete-refusal .ensures) (a .ticket .now) (c .before .before .before .before .before .before .ticket-at .ensures) (c .before .before .before .if1 .left))))

@@ -23,7 +23,13 @@ complete-refusal-spec =
     (λ c κs. search needs)
     (λ c. search needs)
     (λ c κs. search needs)
-    (λ c. sym (miss _ (le-ltb _ _ (c .before .before .before .before .before .before .before .before .if1 .left)) ∙ hit _ (negated ((c .before .is-out .ensures) ∙ ap (λ (x : Selection). isOut (markAt (word (c .before .before .before .before .before .before .before .before .before .args .queue .now) 73)) x (c .before .before .before .before .before .before .before .before .before .args .ticket)) (c .before .before .before .selection-at .ensures)) (c .if2 .taken))))
+    (λ c.
+    let a = c .before .before .before .before .before .before .before .before .before .args in
+    sym (miss _ (le-ltb _ _ (c .before .before .before .before .before .before .before .before .if1 .left)) ∙ hit _ (negated ((c .before .is-out .ensures) ∙ ap (λ (x : Selection). isOut (markAt (word (a .queue .now) 73)) x (a .ticket)) (c .before .before .before .selection-at .ensures)) (c .if2 .taken))))
     (λ c κs. search needs)
-    (λ c. sym (miss _ (le-ltb _ _ (c .before .before .before .before .before .before .before .before .before .before .if1 .left)) ∙ (miss _ (negated ((c .before .before .before .is-out .ensures) ∙ ap (λ (x : Selection). isOut (markAt (word (c .before .before .before .before .before .before .before .before .before .before .before .args .queue .now) 73)) x (c .before .before .before .before .before .before .before .before .before .before .before .args .ticket)) (c .before .before .before .before .before .selection-at .ensures)) (c .before .before .if2 .left)) ∙ hit _ (sym (c .before .keeps-on-done .ensures) ∙ (c .if3 .taken)))))
-    (λ c. sym (miss _ (le-ltb _ _ (c .before .before .before .before .before .before .before .before .before .before .if1 .left)) ∙ (miss _ (negated ((c .before .before .before .is-out .ensures) ∙ ap (λ (x : Selection). isOut (markAt (word (c .before .before .before .before .before .before .before .before .before .before .before .args .queue .now) 73)) x (c .before .before .before .before .before .before .before .before .before .before .before .args .ticket)) (c .before .before .before .before .before .selection-at .ensures)) (c .before .before .if2 .left)) ∙ miss _ (sym (c .before .keeps-on-done .ensures) ∙ (c .if3 .left))))))
+    (λ c.
+    let a = c .before .before .before .before .before .before .before .before .before .before .before .args in
+    sym (miss _ (le-ltb _ _ (c .before .before .before .before .before .before .before .before .before .before .if1 .left)) ∙ (miss _ (negated ((c .before .before .before .is-out .ensures) ∙ ap (λ (x : Selection). isOut (markAt (word (a .queue .now) 73)) x (a .ticket)) (c .before .before .before .before .before .selection-at .ensures)) (c .before .before .if2 .left)) ∙ hit _ (sym (c .before .keeps-on-done .ensures) ∙ (c .if3 .taken)))))
+    (λ c.
+    let a = c .before .before .before .before .before .before .before .before .before .before .before .args in
+    sym (miss _ (le-ltb _ _ (c .before .before .before .before .before .before .before .before .before .before .if1 .left)) ∙ (miss _ (negated ((c .before .before .before .is-out .ensures) ∙ ap (λ (x : Selection). isOut (markAt (word (a .queue .now) 73)) x (a .ticket)) (c .before .before .before .before .before .selection-at .ensures)) (c .before .before .if2 .left)) ∙ miss _ (sym (c .before .keeps-on-done .ensures) ∙ (c .if3 .left))))))

@@ -25,4 +25,6 @@ open-iterator-spec =
     (λ c. (sym (ap (λ (r : OpenAnswer). openNumber (r .answer)) (hit _ (lt-ltb _ _ (c .before .before .if1 .taken)))), (c .put-scope .ensures) ∙ (scope-words 0 0 ∙ sym (ap (λ (r : OpenAnswer). wordsOf (r .queue)) (hit _ (lt-ltb _ _ (c .before .before .if1 .taken)))))))
     (λ c κs. search needs)
     (λ c κs. (ap length (c .before .put-iterator .ensures), omega (arith, (c .before .before .before .if1 .left))))
-    (λ c. (sym (ap (λ (r : OpenAnswer). openNumber (r .answer)) (miss _ (le-ltb _ _ (c .before .before .before .before .if1 .left)))), (c .put-run .ensures) ∙ (ap (λ (l : List ℕ). runPut l 75 (c .before .before .before .before .before .before .args .bindings .now)) (c .before .before .put-iterator .ensures) ∙ (iterator-words (c .before .before .before .before .before .before .args .domain) (c .before .before .before .before .before .before .args .first) (c .before .before .before .before .before .before .args .bindings .now) (c .before .before .before .before .if1 .left) ∙ sym (ap (λ (r : OpenAnswer). wordsOf (r .queue)) (miss _ (le-ltb _ _ (c .before .before .before .before .if1 .left)))))))))
+    (λ c.
+    let a = c .before .before .before .before .before .before .args in
+    (sym (ap (λ (r : OpenAnswer). openNumber (r .answer)) (miss _ (le-ltb _ _ (c .before .before .before .before .if1 .left)))), (c .put-run .ensures) ∙ (ap (λ (l : List ℕ). runPut l 75 (a .bindings .now)) (c .before .before .put-iterator .ensures) ∙ (iterator-words (a .domain) (a .first) (a .bindings .now) (c .before .before .before .before .if1 .left) ∙ sym (ap (λ (r : OpenAnswer). wordsOf (r .queue)) (miss _ (le-ltb _ _ (c .before .before .before .before .if1 .left)))))))))

@@ -29,8 +29,14 @@ pop-due-spec =
     (λ c κs. search needs)
     (λ c. search needs)
     (λ c. search needs)
-    (λ c. sym (miss _ (ne-eqb _ _ (c .before .before .before .before .before .before .before .before .before .before .before .before .before .if1 .left)) ∙ (miss _ (ne-eqb _ _ (c .before .before .before .before .before .before .before .before .before .before .before .if2 .left)) ∙ (ap (dueBy (queueOf (c .before .before .before .before .before .before .before .before .before .before .before .before .before .before .before .args .w .now))) (sym (c .before .before .before .before .before .selection-at .ensures) ∙ (c .before .before .before .enum-told .given .1)) ∙ ap (freshDue (queueOf (c .before .before .before .before .before .before .before .before .before .before .before .before .before .before .before .args .w .now))) (sym (c .before .before .newest-waiting .ensures) ∙ (c .enum-told2 .given .1))))))
-    (λ c. sym (miss _ (ne-eqb _ _ (c .before .before .before .before .before .before .before .before .before .before .before .before .before .before .before .if1 .left)) ∙ (miss _ (ne-eqb _ _ (c .before .before .before .before .before .before .before .before .before .before .before .before .before .if2 .left)) ∙ (ap (dueBy (queueOf (c .before .before .before .before .before .before .before .before .before .before .before .before .before .before .before .before .before .args .w .now))) (sym (c .before .before .before .before .before .before .before .selection-at .ensures) ∙ (c .before .before .before .before .before .enum-told .given .1)) ∙ (ap (freshDue (queueOf (c .before .before .before .before .before .before .before .before .before .before .before .before .before .before .before .before .before .args .w .now))) (sym (c .before .before .before .before .newest-waiting .ensures) ∙ (c .before .before .found .given .1)) ∙ hit _ (le-leb _ _ (c .if3 .taken)))))))
+    (λ c.
+    let a = c .before .before .before .before .before .before .before .before .before .before .before .before .before .before .before .args in
+    sym (miss _ (ne-eqb _ _ (c .before .before .before .before .before .before .before .before .before .before .before .before .before .if1 .left)) ∙ (miss _ (ne-eqb _ _ (c .before .before .before .before .before .before .before .before .before .before .before .if2 .left)) ∙ (ap (dueBy (queueOf (a .w .now))) (sym (c .before .before .before .before .before .selection-at .ensures) ∙ (c .before .before .before .enum-told .given .1)) ∙ ap (freshDue (queueOf (a .w .now))) (sym (c .before .before .newest-waiting .ensures) ∙ (c .enum-told2 .given .1))))))
+    (λ c.
+    let a = c .before .before .before .before .before .before .before .before .before .before .before .before .before .before .before .before .before .args in
+    sym (miss _ (ne-eqb _ _ (c .before .before .before .before .before .before .before .before .before .before .before .before .before .before .before .if1 .left)) ∙ (miss _ (ne-eqb _ _ (c .before .before .before .before .before .before .before .before .before .before .before .before .before .if2 .left)) ∙ (ap (dueBy (queueOf (a .w .now))) (sym (c .before .before .before .before .before .before .before .selection-at .ensures) ∙ (c .before .before .before .before .before .enum-told .given .1)) ∙ (ap (freshDue (queueOf (a .w .now))) (sym (c .before .before .before .before .newest-waiting .ensures) ∙ (c .before .before .found .given .1)) ∙ hit _ (le-leb _ _ (c .if3 .taken)))))))
     (λ c. search needs)
     (λ c. search needs)
-    (λ c. sym (miss _ (ne-eqb _ _ (c .before .before .before .before .before .before .before .before .before .before .before .before .before .before .before .before .if1 .left)) ∙ (miss _ (ne-eqb _ _ (c .before .before .before .before .before .before .before .before .before .before .before .before .before .before .if2 .left)) ∙ (ap (dueBy (queueOf (c .before .before .before .before .before .before .before .before .before .before .before .before .before .before .before .before .before .before .args .w .now))) (sym (c .before .before .before .before .before .before .before .before .selection-at .ensures) ∙ (c .before .before .before .before .before .before .enum-told .given .1)) ∙ (ap (freshDue (queueOf (c .before .before .before .before .before .before .before .before .before .before .before .before .before .before .before .before .before .before .args .w .now))) (sym (c .before .before .before .before .before .newest-waiting .ensures) ∙ (c .before .before .before .found .given .1)) ∙ miss _ (lt-leb _ _ (c .before .if3 .left))))))))
+    (λ c.
+    let a = c .before .before .before .before .before .before .before .before .before .before .before .before .before .before .before .before .before .before .args in
+    sym (miss _ (ne-eqb _ _ (c .before .before .before .before .before .before .before .before .before .before .before .before .before .before .before .before .if1 .left)) ∙ (miss _ (ne-eqb _ _ (c .before .before .before .before .before .before .before .before .before .before .before .before .before .before .if2 .left)) ∙ (ap (dueBy (queueOf (a .w .now))) (sym (c .before .before .before .before .before .before .before .before .selection-at .ensures) ∙ (c .before .before .before .before .before .before .enum-told .given .1)) ∙ (ap (freshDue (queueOf (a .w .now))) (sym (c .before .before .before .before .before .newest-waiting .ensures) ∙ (c .before .before .before .found .given .1)) ∙ miss _ (lt-leb _ _ (c .before .if3 .left))))))))
