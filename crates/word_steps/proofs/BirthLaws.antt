@@ -60,7 +60,7 @@ module _ (ws : List ℕ) (s : isSound ws ≡ true) (number : ℕ) where
     landed-held = hold-phase grown-held (next (phaseAt (word ws 74)) Land)
 
   -- ---- the calls, by the number n that refuses them
-  -- one call: the record r that it makes, which is after where nothing refuses, and the words vs that hold it
+  -- one call: its answer r, whose record is after where nothing refuses, and the words vs that hold this
   pub record Birth (n : ℕ) (call : Exported) (r : RegisterAnswer) (after : Queue) (vs : List ℕ) : Type 0 where
     pub by : r ≡ bornBy (queueOf ws) number after n
     pub place : n ≡ 0 → word ws 67 < 64
