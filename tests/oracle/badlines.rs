@@ -111,7 +111,7 @@ pub fn end(maker: &mut Maker, seed: u64) {
     maker.seen.bad_lines += 1;
 }
 
-// Each bad line behind a recorded call and what it needs, with a call behind it; then three texts' ends.
+// Each bad line behind a recorded call and what it needs, with a call behind it; then six texts that end in an odd way.
 pub fn scripts() -> Vec<Vec<u8>> {
     let whole = |bad: &BadLine| {
         [b"30,5,0,0,0\r\n", &lead(bad)[..], bad.line.as_bytes(), b"\r\n12,0,0,0,0\r\n"].concat()

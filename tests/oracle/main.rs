@@ -1,4 +1,4 @@
-// main.rs: the commands of the test oracle, written from document 01 alone.
+// main.rs: the commands of the test oracle, written from document 01.
 
 mod agree;
 mod badlines;

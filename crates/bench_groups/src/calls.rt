@@ -88,13 +88,6 @@ pub fn register(case: u64, g: Groups, id: u64, undo: u64) -> Groups {
     a.groups
 }
 
-pub fn land(case: u64, g: Groups, id: u64, undo: u64) -> Groups {
-    let a = group_steps::land(g, id, undo);
-    let answer = a.answer;
-    born(case, b"land", answer);
-    a.groups
-}
-
 pub fn pop(case: u64, g: Groups, id: u64) -> Groups {
     let a = group_steps::pop(g, id);
     let answer = a.answer;

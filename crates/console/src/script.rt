@@ -50,7 +50,7 @@ fn next_byte(chunk: &mut [u8; 4096], input: Input) -> Next {
     )
 }
 
-pub struct Gathered {
+struct Gathered {
     pub count: usize,
     pub input: Input,
 }

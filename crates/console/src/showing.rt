@@ -71,13 +71,13 @@ fn tail(page: &mut [u8; 4096], pen: Pen, q: Queue) -> Pen {
 }
 
 // The 92 decimals of a queue, behind what the line has already.
-pub fn show_queue(page: &mut [u8; 4096], pen: Pen, q: Queue) -> Pen {
+fn show_queue(page: &mut [u8; 4096], pen: Pen, q: Queue) -> Pen {
     let half = head(page, pen, q);
     let whole = tail(page, half, q);
     end_line(page, whole)
 }
 
-pub fn show_log(page: &mut [u8; 4096], pen: Pen, log: &[u64], used: u64) -> Pen {
+fn show_log(page: &mut [u8; 4096], pen: Pen, log: &[u64], used: u64) -> Pen {
     let lent = number(page, pen, log.len() as u64);
     let counted = number(page, lent, used);
     let whole = numbers(page, counted, log);

@@ -117,7 +117,7 @@ fn negate(told: Told) -> Told
     }
 }
 
-// Whether the stage is not cancelled; a cancelled stage that is pending may still land.
+// Whether the stage is not cancelled: land is not asked here, and Stopping still takes one.
 pub fn accepts_acquisition(g: Groups, id: u64) -> Told
     ensures { λ r. ⌜ r ≡ acceptsIn g id ⌝ }
 {

@@ -1,4 +1,4 @@
--- The record with one part set, and the lengths of its two arrays. An added field changes this file and the openings, and no step
+-- The record with one part set, and the lengths of its two arrays. An added field changes this file, the openings and the blank test, and no step
 use Prim.Native.Nat.{ℕ}
 use mathlib.Core.Path.{_≡_}
 use mathlib.Core.Bool.{Bool}

@@ -1,4 +1,4 @@
--- The ticket that is out is the selected one
+-- The ticket that is out is the selected one; a retry that is allowed has an attempt left
 use Prim.Native.Nat.{ℕ, _<_}
 use mathlib.Core.Path.{_≡_, refl, ap, _∙_}
 use mathlib.Core.Bool.{Bool, true, not, _&&_}

@@ -1,4 +1,4 @@
-// The parts of a record as numbers: the kind, a ticket and the selection.
+// The parts of a record from their words: the kind, a ticket and the selection.
 use queue_record::Kind;
 use queue_record::Selection;
 use queue_record::Ticket;

@@ -11,7 +11,7 @@ ghost use Prim.Native.Nat.{_≤_};
 ghost use Rattle.stage.specs.Phases.{phaseAt};
 ghost use Rattle.queue_record.specs.Waiting.{occupied, others};
 ghost use Rattle.queue_steps.specs.Attempts.{retryAllowed};
-ghost use Rattle.queue_questions.specs.Questions.{nothingLeft, finishable, committed};
+ghost use Rattle.queue_questions.specs.Questions.{nothingLeft, matches, finishable, committed};
 ghost use Rattle.queue_words.specs.Words.{word, slotsIn, selectionIn, queueOf, isSound};
 
 // Nothing waiting and nothing selected.
@@ -50,4 +50,14 @@ pub fn finish_allowed(w: &[u64; 92], target: &[u64]) -> bool
     let end = 75 + w[91] as usize;
     let words = &w[..];
     may_finish(selection, phase, target, &words[75..end])
+}
+
+// Whether the target is the committed set.
+pub fn target_matches(w: &[u64; 92], target: &[u64]) -> bool
+    requires { ⌜ word (now w) 91 ≤ 16 ⌝ }
+    ensures { λ r. ⌜ r ≡ matches (queueOf (now (w .entry))) (now (target .entry)) ⌝ }
+{
+    let end = 75 + w[91] as usize;
+    let words = &w[..];
+    stage::same_set(target, &words[75..end])
 }

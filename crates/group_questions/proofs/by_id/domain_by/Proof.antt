@@ -1,4 +1,4 @@
--- By the answer
+-- A refusal stays; else the queue's domain
 use mathlib.Core.Path.{sym, ap}
 use Rattle.group_questions.specs.ById.{domainBy}
 use Rattle.group_check.specs.declared.ids.Got.{Got}

@@ -1,4 +1,4 @@
--- By the answer
+-- A refusal stays; yes and no change places
 use mathlib.Core.Path.{sym, ap}
 use Rattle.group_questions.specs.ById.{negation}
 use borrow.Author.Needs.{needs}

@@ -3,8 +3,8 @@ use mathlib.Core.Path.{ap, _∙_}
 use Rattle.stage.specs.Bindings.{sameSet}
 use Rattle.queue_words.proofs.QuestionWords.{committed-words}
 use borrow.Author.Needs.{needs}
-use Rattle.queue_words.proofs.search.target_matches.Statement.{statement}
-use Rattle.queue_words.proofs.search.target_matches.Tie as tie
+use Rattle.queue_words.proofs.questions.target_matches.Statement.{statement}
+use Rattle.queue_words.proofs.questions.target_matches.Tie as tie
 
 pub target-matches-spec : {M : Type 1} → statement M
 target-matches-spec =
