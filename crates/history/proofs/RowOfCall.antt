@@ -13,7 +13,7 @@ use Rattle.queue_record.specs.declared.record.Ticket.{Ticket}
 use Rattle.queue_record.specs.declared.record.Queue.{Queue}
 use Rattle.queue_record.proofs.Fit.{selected-domain}
 use Rattle.queue_births.specs.Births.{registered, landed}
-use Rattle.queue_steps.specs.Attempts.{popped, completed, retried}
+use Rattle.queue_steps.specs.Attempts.{popped, completed, retried, isSettledAnswer}
 use Rattle.queue_births.specs.declared.births.Registered.{Registered}
 use Rattle.queue_steps.specs.declared.attempts.Popped.{Popped}
 use Rattle.queue_steps.specs.declared.attempts.CompleteAnswer.{CompleteAnswer}
@@ -26,7 +26,7 @@ use Rattle.cleanup_queue.proofs.ByCase.{complete-by}
 use Rattle.log_rows.specs.Rows.{rowOf}
 use Rattle.log_rows.specs.declared.Row.{Row}
 use Rattle.log_calls.specs.Births.{isBirth, birthRow}
-use Rattle.log_attempts.specs.Attempts.{isWork, popRow, isSettledAnswer, isRenewed, retryRow}
+use Rattle.log_attempts.specs.Attempts.{isWork, popRow, isRenewed, retryRow}
 use Rattle.log_stages.specs.Stages.{moved}
 use Rattle.log_replay.specs.Replay.{sameRow, stepped, birthFits, popFits, rowTicket, retryFits, replayedStage, replayed}
 use Rattle.log_replay.specs.declared.replay.Replayed.{Replayed}

@@ -9,7 +9,7 @@ use Rattle.queue_record.specs.Refusals.{done, broken, logFull}
 use Rattle.queue_record.specs.WellFormed.{wellFormed}
 use Rattle.queue_record.specs.declared.record.Queue.{Queue}
 use Rattle.queue_births.specs.Births.{registered, landed}
-use Rattle.queue_steps.specs.Attempts.{popped, completed, retried}
+use Rattle.queue_steps.specs.Attempts.{popped, completed, retried, isSettledAnswer}
 use Rattle.queue_births.specs.declared.births.Registered.{Registered}
 use Rattle.queue_steps.specs.declared.attempts.Popped.{Popped}
 use Rattle.queue_steps.specs.declared.attempts.Completed.{Completed}
@@ -23,7 +23,7 @@ use Rattle.log_rows.specs.Rows.{rowOf}
 use Rattle.log_rows.specs.Appending.{appended}
 use Rattle.log_rows.specs.declared.Row.{Row}
 use Rattle.log_calls.specs.Births.{birthSaid, isBirth, birthRow, registerRecorded, registerLogged, landRecorded, landLogged}
-use Rattle.log_attempts.specs.Attempts.{popSaid, isWork, popRow, popRecorded, popLogged, completeSaid, isSettledAnswer, completeRecorded, completeLogged, retrySaid, isRenewed, retryRow, retryRecorded, retryLogged}
+use Rattle.log_attempts.specs.Attempts.{popSaid, isWork, popRow, popRecorded, popLogged, completeSaid, completeRecorded, completeLogged, retrySaid, isRenewed, retryRow, retryRecorded, retryLogged}
 use Rattle.log_stages.specs.Stages.{moved, stageSaid, admitRecorded, admitLogged, endRecorded, endLogged, cancelSaid, cancelRecorded, cancelLogged}
 use Rattle.log_calls.specs.declared.births.RegisterRecorded.{RegisterRecorded}
 use Rattle.log_attempts.specs.declared.attempts.PopRecorded.{PopRecorded}
