@@ -6,9 +6,9 @@ use mathlib.Core.List.{List, []}
 use native.Mathlib.Omega.{arith}
 use borrow.Author.Tests.{eq-eqb, ne-eqb, eqb-true, not-true, not-false}
 use lib.ListN.{length}
-use Rattle.stage.specs.Choice.{if_then_else_}
+use Rattle.choice.specs.Choice.{if_then_else_}
 use Rattle.stage.specs.Phases.{isPending}
-use Rattle.stage.proofs.Ways.{miss, pass, clash, and-left, and-right}
+use Rattle.choice.proofs.Ways.{miss, pass, clash, and-left, and-right}
 use Rattle.queue_record.specs.Refusals.{broken}
 use Rattle.queue_record.specs.declared.record.Queue.{Queue}
 use Rattle.queue_questions.specs.Questions.{yesOrNo, canFinishTold}

@@ -5,8 +5,8 @@ use mathlib.Core.Bool.{Bool, true, false}
 use mathlib.Core.List.{List, [], _∷_}
 use native.Mathlib.Omega.{arith}
 use lib.ListN.{length, getD, set}
-use Rattle.stage.specs.Choice.{if_then_else_}
-use Rattle.stage.proofs.Ways.{hit, miss}
+use Rattle.choice.specs.Choice.{if_then_else_}
+use Rattle.choice.proofs.Ways.{hit, miss}
 use Rattle.queue_record.specs.declared.record.Queue.{Queue}
 use Rattle.group_record.specs.Record.{nowhere, placeAt, freePlace, livePlace, withPlace, opening}
 use Rattle.group_record.specs.declared.record.Place.{Place}

@@ -7,7 +7,7 @@ use native.Mathlib.Omega.{arith}
 use borrow.Author.Tests.{not-true, not-false}
 use lib.ListN.{length}
 use Rattle.stage.specs.Phases.{isPending, isSettled}
-use Rattle.stage.proofs.Ways.{miss, pass, and-left, and-right, clash}
+use Rattle.choice.proofs.Ways.{miss, pass, and-left, and-right, clash}
 use Rattle.queue_record.specs.WellFormed.{wellFormed}
 use Rattle.queue_record.specs.Waiting.{waiting}
 use Rattle.queue_record.specs.declared.openings.Opened.{Opened}

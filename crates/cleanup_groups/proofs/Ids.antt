@@ -6,7 +6,7 @@ use mathlib.Core.Logic.{_⊎_, inl, inr, ⊎-elim}
 use mathlib.Core.List.{List, [], _∷_}
 use native.Mathlib.Omega.{arith}
 use lib.ListN.{length}
-use Rattle.stage.proofs.Ways.{clash}
+use Rattle.choice.proofs.Ways.{clash}
 use Rattle.cleanup_queue.specs.Runs as queue
 use Rattle.group_record.specs.Record.{placeAt, queueAt, freePlace, livePlace, holding, withPlace, sealing}
 use Rattle.group_check.specs.WellFormed.{wellGrouped}

@@ -6,7 +6,7 @@ use mathlib.Core.List.{List, []}
 use borrow.Author.Tests.{eq-eqb}
 use lib.ListN.{length}
 use Rattle.stage.specs.Phases.{isCancelled}
-use Rattle.stage.proofs.Ways.{hit, miss, clash}
+use Rattle.choice.proofs.Ways.{hit, miss, clash}
 use Rattle.queue_record.specs.Newest.{isThere}
 use Rattle.queue_record.specs.Openings.{blank}
 use Rattle.queue_record.specs.Refusals.{broken, noGroup}

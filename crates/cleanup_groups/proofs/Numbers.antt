@@ -5,7 +5,7 @@ use mathlib.Core.Bool.{Bool, true, false, not}
 use mathlib.Core.List.{List, [], _∷_}
 use lib.Dec.{leb, ltb}
 use lib.ListN.{length}
-use Rattle.stage.specs.Choice.{if_then_else_}
+use Rattle.choice.specs.Choice.{if_then_else_}
 use Rattle.queue_record.specs.Newest.{isThere}
 use Rattle.queue_record.specs.Refusals.{broken, noGroup, sealed, noId}
 use Rattle.queue_record.specs.Openings.{iteratorOpened}

@@ -3,9 +3,9 @@ use Prim.Native.Nat.{ℕ}
 use mathlib.Core.Path.{_≡_, refl, ap, _∙_}
 use mathlib.Core.Bool.{Bool, true, false, not}
 use mathlib.Core.List.{List, []}
-use Rattle.stage.specs.Choice.{if_then_else_}
+use Rattle.choice.specs.Choice.{if_then_else_}
 use Rattle.stage.specs.Phases.{isCancelled}
-use Rattle.stage.proofs.Ways.{hit, miss, if-by}
+use Rattle.choice.proofs.Ways.{hit, miss, if-by}
 use Rattle.queue_record.specs.Newest.{isThere}
 use Rattle.queue_record.specs.Refusals.{broken, noGroup}
 use Rattle.queue_record.specs.declared.record.Queue.{Queue}

@@ -3,7 +3,7 @@ use Prim.Native.Nat.{ℕ}
 use mathlib.Core.Path.{_≡_, refl, sym, ap, _∙_}
 use mathlib.Core.List.{List}
 use lib.ListN.{length}
-use Rattle.stage.proofs.Ways.{clash}
+use Rattle.choice.proofs.Ways.{clash}
 use Rattle.queue_record.specs.declared.record.Ticket.{Ticket}
 use Rattle.group_record.specs.Record.{placeAt, withPlace}
 use Rattle.group_check.specs.Ids.{spotOf}

@@ -7,7 +7,7 @@ use native.Mathlib.Omega.{arith}
 use borrow.Author.Tests.{ltb-true, lt-ltb, le-ltb, lt-leb, not-true}
 use lib.Dec.{ltb}
 use lib.ListN.{length}
-use Rattle.stage.proofs.Ways.{miss, pass, clash, and-left, and-right}
+use Rattle.choice.proofs.Ways.{miss, pass, clash, and-left, and-right}
 use Rattle.queue_record.specs.Newest.{isThere}
 use Rattle.queue_record.specs.Openings.{scopeOf, iteratorOf, iteratorOpened}
 use Rattle.queue_record.specs.declared.openings.Opened.{Opened}

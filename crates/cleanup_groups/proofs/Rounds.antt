@@ -5,7 +5,7 @@ use mathlib.Core.Bool.{true, false, not}
 use native.Mathlib.Omega.{arith}
 use borrow.Author.Tests.{not-true, not-false}
 use lib.ListN.{length}
-use Rattle.stage.proofs.Ways.{if-by, miss, pass}
+use Rattle.choice.proofs.Ways.{if-by, miss, pass}
 use Rattle.queue_record.specs.declared.record.Ticket.{Ticket}
 use Rattle.queue_steps.specs.Attempts.{retried}
 use Rattle.queue_steps.specs.declared.attempts.Retried.the-variants.{Again}

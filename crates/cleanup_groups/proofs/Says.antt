@@ -6,8 +6,8 @@ use mathlib.Core.List.{List, [], _∷_}
 use native.Mathlib.Omega.{arith}
 use lib.Dec.{ltb}
 use lib.ListN.{length}
-use Rattle.stage.specs.Choice.{if_then_else_}
-use Rattle.stage.proofs.Ways.{if-by, miss}
+use Rattle.choice.specs.Choice.{if_then_else_}
+use Rattle.choice.proofs.Ways.{if-by, miss}
 use Rattle.queue_record.specs.Refusals.{done}
 use Rattle.queue_record.specs.declared.openings.Opened.{Opened}
 use Rattle.queue_questions.specs.Questions.{yesOrNo}

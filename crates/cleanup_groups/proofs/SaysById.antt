@@ -6,7 +6,7 @@ use mathlib.Core.List.{List}
 use native.Mathlib.Omega.{arith}
 use lib.Dec.{eqb, leb, ltb}
 use Rattle.stage.specs.Phases.{isPending, isCancelled}
-use Rattle.stage.proofs.Ways.{if-by}
+use Rattle.choice.proofs.Ways.{if-by}
 use Rattle.queue_record.specs.Newest.{newest}
 use Rattle.queue_record.specs.Waiting.{waiting}
 use Rattle.queue_record.specs.WellFormed.{wellFormed}

@@ -5,7 +5,7 @@ use mathlib.Core.List.{List, [], _∷_}
 use native.Mathlib.Omega.{arith}
 use lib.Dec.{ltb}
 use lib.ListN.{length, getD, replicate}
-use Rattle.stage.proofs.Ways.{if-by}
+use Rattle.choice.proofs.Ways.{if-by}
 use Rattle.queue_record.specs.Record.{Sized}
 use Rattle.queue_record.specs.Openings.{scopeOf}
 use Rattle.queue_record.proofs.Opened.{scope-sized, blank-sized}

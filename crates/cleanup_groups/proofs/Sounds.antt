@@ -7,8 +7,8 @@ use native.Mathlib.Omega.{arith}
 use borrow.Author.Tests.{eq-eqb, ne-eqb, eqb-true, leb-false, lt-leb, ltb-true, ltb-false, not-true, not-false}
 use lib.Dec.{eqb, ltb}
 use lib.ListN.{length, getD}
-use Rattle.stage.specs.Choice.{if_then_else_, implies}
-use Rattle.stage.proofs.Ways.{hit, miss, pass, stop, and-left, and-right, clash, if-by}
+use Rattle.choice.specs.Choice.{if_then_else_, implies}
+use Rattle.choice.proofs.Ways.{hit, miss, pass, stop, and-left, and-right, clash, if-by}
 use Rattle.queue_record.specs.Newest.{isThere}
 use Rattle.queue_record.specs.WellFormed.{wellFormed}
 use Rattle.queue_record.specs.Blank.{isBlank}

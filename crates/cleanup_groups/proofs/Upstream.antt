@@ -8,7 +8,7 @@ use native.Mathlib.Omega.{arith}
 use borrow.Author.Tests.{lt-ltb, le-ltb, not-true}
 use lib.Dec.{ltb}
 use lib.ListN.{length}
-use Rattle.stage.proofs.Ways.{if-by, hit, miss, pass, and-left, and-right, clash}
+use Rattle.choice.proofs.Ways.{if-by, hit, miss, pass, and-left, and-right, clash}
 use Rattle.stage.specs.Phases.{isPending}
 use Rattle.queue_record.specs.Openings.{scopeOf, iteratorOf}
 use Rattle.queue_record.specs.declared.record.Queue.{Queue}

@@ -5,7 +5,7 @@ use mathlib.Core.Bool.{true, false, not}
 use native.Mathlib.Omega.{arith}
 use borrow.Author.Tests.{eqb-true, eqb-false, leb-false, ltb-false, not-false}
 use lib.Dec.{eqb, leb, ltb}
-use Rattle.stage.proofs.Ways.{if-by}
+use Rattle.choice.proofs.Ways.{if-by}
 use Rattle.stage.specs.Phases.{next, isPending}
 use Rattle.stage.specs.declared.phases.Event.the-variants.{Land}
 use Rattle.queue_record.specs.Refusals.{broken, badNumber, noSlot, notPending, noAttempt, notOut, keptOnDone, noRetry, hollow, badOutcome}

@@ -8,7 +8,7 @@ use native.Mathlib.Numerals.{add-one}
 use borrow.Author.Tests.{lt-leb, le-leb}
 use Rattle.stage.specs.Bindings.{sameSet}
 use Rattle.stage.specs.declared.phases.Phase.the-variants.{Ended}
-use Rattle.stage.proofs.Ways.{hit, miss}
+use Rattle.choice.proofs.Ways.{hit, miss}
 use Rattle.queue_record.specs.Record.{withSlot, withCount, withSelection, withFailed, withIssued}
 use Rattle.queue_record.specs.WellFormed.{wellFormed}
 use Rattle.queue_record.specs.Newest.{newest}

@@ -6,10 +6,10 @@ use mathlib.Core.List.{List, []}
 use native.Mathlib.Omega.{arith}
 use borrow.Author.Tests.{not-true}
 use lib.Dec.{eqb}
-use Rattle.stage.specs.Choice.{if_then_else_}
+use Rattle.choice.specs.Choice.{if_then_else_}
 use Rattle.stage.specs.Bindings.{sameSet}
 use Rattle.stage.specs.Phases.{isPending, isCancelled}
-use Rattle.stage.proofs.Ways.{hit, miss, pass, stop, and-left, and-right, clash}
+use Rattle.choice.proofs.Ways.{hit, miss, pass, stop, and-left, and-right, clash}
 use Rattle.stage.proofs.Sets.{same-means, means-same}
 use Rattle.queue_record.specs.Refusals.{noRetry}
 use Rattle.queue_record.specs.WellFormed.{wellFormed}

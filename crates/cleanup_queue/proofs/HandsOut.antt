@@ -7,8 +7,8 @@ use mathlib.Core.List.{List, [], _∷_, _++_}
 use native.Mathlib.Omega.{arith}
 use borrow.Author.Tests.{ne-eqb, lt-ltb, le-ltb, leb-true, leb-false}
 use lib.Dec.{leb, ltb}
-use Rattle.stage.specs.Choice.{if_then_else_}
-use Rattle.stage.proofs.Ways.{miss, pass, stop, other}
+use Rattle.choice.specs.Choice.{if_then_else_}
+use Rattle.choice.proofs.Ways.{miss, pass, stop, other}
 use Rattle.queue_record.specs.Refusals.{broken, hollow, noAttempt}
 use Rattle.queue_record.specs.WellFormed.{wellFormed, isSelected}
 use Rattle.queue_record.specs.Waiting.{occupied, without, waiting}

@@ -13,7 +13,7 @@ use Rattle.stage.specs.declared.phases.Phase.{Phase}
 use Rattle.stage.specs.declared.phases.Phase.the-variants.{Idle, Pending, Ended, Stopping, Closed}
 use Rattle.stage.specs.declared.phases.Event.{Event}
 use Rattle.stage.specs.declared.phases.Event.the-variants.{Admit, Land, End, Cancel}
-use Rattle.stage.proofs.Ways.{if-by, pass, and-left, and-right, clash}
+use Rattle.choice.proofs.Ways.{if-by, pass, and-left, and-right, clash}
 use Rattle.queue_record.specs.Record.{withSelection, withFailed, withPhase}
 use Rattle.queue_record.specs.WellFormed.{allZero, restZero, isSelected, ticketFits, marksFit, slotFits, selectedFits, scopeFits, wellFormed}
 use Rattle.queue_record.specs.declared.record.Kind.{Kind}

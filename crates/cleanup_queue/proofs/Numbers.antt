@@ -5,7 +5,7 @@ use mathlib.Core.Bool.{Bool, not}
 use mathlib.Core.List.{List, [], _∷_}
 use native.Mathlib.Omega.{arith}
 use Rattle.stage.specs.Phases.{isPending, isSettled, isCancelled}
-use Rattle.stage.proofs.Ways.{if-by}
+use Rattle.choice.proofs.Ways.{if-by}
 use Rattle.queue_record.specs.WellFormed.{wellFormed}
 use Rattle.queue_record.specs.Waiting.{waiting}
 use Rattle.queue_record.specs.Openings.{iteratorOpened}

@@ -6,7 +6,7 @@ use mathlib.Core.Bool.{Bool, true, false, not, _||_, or-true}
 use mathlib.Core.List.{List, [], _∷_, _++_}
 use native.Mathlib.Omega.{arith}
 use lib.Dec.{eqb}
-use Rattle.stage.proofs.Ways.{if-by, either, other, and-left}
+use Rattle.choice.proofs.Ways.{if-by, either, other, and-left}
 use Rattle.queue_record.specs.WellFormed.{wellFormed}
 use Rattle.queue_record.specs.declared.record.Ticket.{Ticket}
 use Rattle.queue_record.specs.declared.record.Selection.{Selection}

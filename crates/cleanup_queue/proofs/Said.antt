@@ -6,9 +6,9 @@ use mathlib.Core.List.{List, [], _∷_}
 use native.Mathlib.Omega.{arith}
 use lib.Dec.{eqb, leb, ltb}
 use lib.ListN.{length}
-use Rattle.stage.specs.Choice.{if_then_else_}
+use Rattle.choice.specs.Choice.{if_then_else_}
 use Rattle.stage.specs.Phases.{isPending, isSettled, isCancelled}
-use Rattle.stage.proofs.Ways.{miss, if-by}
+use Rattle.choice.proofs.Ways.{miss, if-by}
 use Rattle.queue_record.specs.Refusals.{noAttempt, noRetry, hollow}
 use Rattle.queue_record.specs.WellFormed.{wellFormed}
 use Rattle.queue_record.specs.Waiting.{waiting}

@@ -5,7 +5,7 @@ use mathlib.Core.Bool.{not}
 use mathlib.Core.List.{List, [], _∷_}
 use lib.Dec.{eqb}
 use lib.ListN.{length, set, length-set}
-use Rattle.stage.proofs.Ways.{if-by}
+use Rattle.choice.proofs.Ways.{if-by}
 use Rattle.queue_record.specs.Record.{Sized}
 use Rattle.queue_record.specs.WellFormed.{wellFormed}
 use Rattle.queue_record.specs.declared.record.Queue.{Queue}

@@ -10,13 +10,13 @@ use borrow.Author.Tests.{eq-eqb, ne-eqb, le-ltb, lt-leb, eqb-true, eqb-false, no
 use lib.Dec.{eqb, ltb}
 use lib.ListN.{length, getD, set, take}
 use lib.Seq.{take-suc-set, take-append-seam}
-use Rattle.stage.specs.Choice.{if_then_else_}
+use Rattle.choice.specs.Choice.{if_then_else_}
 use Rattle.stage.specs.Bindings.{member}
 use Rattle.stage.specs.Phases.{next, isPending, isSettled, isCancelled}
 use Rattle.stage.specs.declared.phases.Phase.{Phase}
 use Rattle.stage.specs.declared.phases.Phase.the-variants.{Idle, Pending, Ended, Stopping, Closed}
 use Rattle.stage.specs.declared.phases.Event.the-variants.{Land, End, Cancel}
-use Rattle.stage.proofs.Ways.{hit, miss, pass, stop, either, other, and-left, clash, if-by}
+use Rattle.choice.proofs.Ways.{hit, miss, pass, stop, either, other, and-left, clash, if-by}
 use Rattle.queue_record.specs.Refusals.{notOut}
 use Rattle.queue_record.specs.Record.{Sized}
 use Rattle.queue_record.specs.WellFormed.{allZero, wellFormed}

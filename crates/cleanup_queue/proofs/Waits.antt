@@ -7,7 +7,7 @@ use native.Mathlib.Omega.{arith}
 use borrow.Author.Tests.{eqb-true, not-false}
 use lib.Dec.{eqb}
 use lib.ListN.{length, set}
-use Rattle.stage.proofs.Ways.{if-by, pass}
+use Rattle.choice.proofs.Ways.{if-by, pass}
 use Rattle.queue_record.specs.Record.{Sized, withSelection, withFailed}
 use Rattle.queue_record.specs.WellFormed.{ticketFits, wellFormed}
 use Rattle.queue_record.specs.Waiting.{occupied, without, others, waiting}

@@ -5,7 +5,7 @@ use mathlib.Core.Bool.{Bool, true, false, not, _&&_}
 use mathlib.Core.List.{List, [], _∷_}
 use lib.Dec.{eqb, leb, ltb}
 use lib.ListN.{length}
-use Rattle.stage.specs.Choice.{if_then_else_}
+use Rattle.choice.specs.Choice.{if_then_else_}
 use Rattle.stage.specs.Phases.{isPending}
 use Rattle.queue_record.specs.Refusals.{done, broken, badNumber, noSlot, notPending, noAttempt, notOut, keptOnDone, noRetry, hollow, badOutcome, tooManyBindings}
 use Rattle.queue_record.specs.WellFormed.{wellFormed}

@@ -8,7 +8,7 @@ use lib.Dec.{leb}
 use lib.ListN.{length, getD, drop, drop-of-length-le}
 use lib.Seq.{drop-cons}
 use borrow.Author.Tests.{leb-true, le-leb}
-use Rattle.stage.proofs.Ways.{hit, miss, same-truth}
+use Rattle.choice.proofs.Ways.{hit, miss, same-truth}
 use Rattle.csv.specs.declared.number.Number.the-variants.{Of, NoNumber}
 use Rattle.csv.specs.Reading.{isDigit, digitOf, takes, moreDigits}
 

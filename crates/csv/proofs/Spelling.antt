@@ -6,7 +6,7 @@ use mathlib.Core.List.{List, [], _∷_, _++_}
 use native.Mathlib.Omega.{arith}
 use lib.Dec.{leb, ltb}
 use borrow.Author.Tests.{ltb-true, ltb-false, leb-true, le-leb, lt-ltb, le-ltb}
-use Rattle.stage.proofs.Ways.{hit, miss, pass, and-left, and-right, if-by}
+use Rattle.choice.proofs.Ways.{hit, miss, pass, and-left, and-right, if-by}
 use Rattle.csv.specs.Form.{spelled}
 use Rattle.csv.specs.Reading.{isDigit, digitOf}
 

@@ -7,8 +7,8 @@ use native.Mathlib.Omega.{arith}
 use native.Mathlib.Numerals.{add-one}
 use lib.ListN.{length, getD, drop, drop-of-length-le}
 use lib.Seq.{drop-cons}
-use Rattle.stage.specs.Choice.{if_then_else_}
-use Rattle.stage.proofs.Ways.{hit, miss}
+use Rattle.choice.specs.Choice.{if_then_else_}
+use Rattle.choice.proofs.Ways.{hit, miss}
 use Rattle.queue_record.specs.Newest.{isThere}
 use Rattle.queue_record.specs.declared.search.Found.the-variants.{At, Missing}
 use Rattle.group_record.specs.Record.{nowhere}

@@ -5,7 +5,7 @@ use mathlib.Core.Bool.{true, false}
 use mathlib.Core.List.{List}
 use native.Mathlib.Omega.{arith}
 use lib.ListN.{length, getD, drop}
-use Rattle.stage.proofs.Ways.{hit, miss}
+use Rattle.choice.proofs.Ways.{hit, miss}
 use Rattle.group_record.specs.Record.{nowhere}
 use Rattle.group_check.specs.Count.{liveCount}
 use Rattle.group_record.specs.declared.record.Place.{Place}

@@ -4,7 +4,7 @@ use mathlib.Core.Path.{_≡_, sym, ap, _∙_}
 use mathlib.Core.Bool.{true, false, not, _&&_}
 use mathlib.Core.List.{List}
 use lib.ListN.{length, getD, drop}
-use Rattle.stage.proofs.Ways.{pass, stop}
+use Rattle.choice.proofs.Ways.{pass, stop}
 use Rattle.group_record.specs.Record.{nowhere}
 use Rattle.group_check.specs.WellFormed.{clashes, distinctIds}
 use Rattle.group_record.specs.declared.record.Place.{Place}

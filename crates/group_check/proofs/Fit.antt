@@ -3,7 +3,7 @@ use Prim.Native.Nat.{_≤_}
 use mathlib.Core.Path.{_≡_, _∙_}
 use mathlib.Core.Bool.{true}
 use borrow.Author.Tests.{le-leb, leb-true}
-use Rattle.stage.proofs.Ways.{pass}
+use Rattle.choice.proofs.Ways.{pass}
 use Rattle.queue_record.proofs.Fit.{all-at}
 use Rattle.group_check.specs.WellFormed.{lastBase, ids, distinctIds, idsBelow, queuesFit, freeFits, sealedFits, clauses, wellGrouped}
 use Rattle.group_record.specs.declared.record.Groups.{Groups}

@@ -2,7 +2,7 @@
 use Prim.Native.Nat.{ℕ}
 use mathlib.Core.Bool.{not}
 use mathlib.Core.List.{[]}
-use Rattle.stage.specs.Choice.{if_then_else_}
+use Rattle.choice.specs.Choice.{if_then_else_}
 use Rattle.queue_record.specs.Openings.{blank}
 use Rattle.queue_record.specs.Refusals.{broken, noGroup}
 use Rattle.queue_record.specs.declared.search.Found.{Found}

@@ -3,7 +3,7 @@ use Prim.Native.Nat.{ℕ}
 use mathlib.Core.Bool.{Bool, true, not, _&&_}
 use mathlib.Core.List.{List, [], _∷_}
 use lib.Dec.{leb}
-use Rattle.stage.specs.Choice.{implies}
+use Rattle.choice.specs.Choice.{implies}
 use Rattle.queue_record.specs.Newest.{isThere}
 use Rattle.queue_record.specs.WellFormed.{allTrue}
 use Rattle.group_asking.specs.Questions.{asksOf}

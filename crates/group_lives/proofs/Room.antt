@@ -7,8 +7,8 @@ use native.Mathlib.Omega.{arith}
 use borrow.Author.Tests.{leb-false}
 use lib.Dec.{leb}
 use lib.ListN.{length}
-use Rattle.stage.specs.Choice.{if_then_else_}
-use Rattle.stage.proofs.Ways.{miss}
+use Rattle.choice.specs.Choice.{if_then_else_}
+use Rattle.choice.proofs.Ways.{miss}
 use Rattle.queue_record.specs.Refusals.{broken, sealed, noId}
 use Rattle.queue_record.specs.declared.search.Found.{Found}
 use Rattle.queue_record.specs.declared.search.Found.the-variants.{At, Missing}

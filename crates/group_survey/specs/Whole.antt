@@ -4,7 +4,7 @@ use Prim.Native.Nat.{ℕ}
 use mathlib.Core.Bool.{Bool, not, _&&_}
 use mathlib.Core.List.{List, []}
 use lib.Dec.{ltb}
-use Rattle.stage.specs.Choice.{if_then_else_}
+use Rattle.choice.specs.Choice.{if_then_else_}
 use Rattle.queue_record.specs.Refusals.{broken}
 use Rattle.queue_questions.specs.Questions.{yesOrNo}
 use Rattle.queue_questions.specs.declared.questions.Told.{Told}

@@ -7,7 +7,7 @@ use native.Mathlib.Omega.{arith}
 use Rattle.stage.specs.Phases.{next, differs}
 use Rattle.stage.specs.declared.phases.Event.{Event}
 use Rattle.stage.specs.declared.phases.Event.the-variants.{Admit, End, Cancel}
-use Rattle.stage.proofs.Ways.{pass, and-left, and-right, clash}
+use Rattle.choice.proofs.Ways.{pass, and-left, and-right, clash}
 use Rattle.queue_record.specs.Refusals.{done, broken, logFull}
 use Rattle.queue_record.specs.WellFormed.{wellFormed}
 use Rattle.queue_record.specs.declared.record.Queue.{Queue}

@@ -6,7 +6,7 @@ use mathlib.Core.Bool.{true}
 use mathlib.Core.List.{List, [], _∷_, _++_}
 use native.Mathlib.Omega.{arith}
 use lib.ListN.{length, length-append}
-use Rattle.stage.proofs.Ways.{pass, and-left, and-right}
+use Rattle.choice.proofs.Ways.{pass, and-left, and-right}
 use Rattle.queue_record.specs.Openings.{scopeOf, iteratorOf}
 use Rattle.queue_record.specs.declared.record.Kind.{Kind}
 use Rattle.queue_record.specs.declared.record.Kind.the-variants.{Scope, Iterator}

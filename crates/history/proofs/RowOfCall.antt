@@ -7,7 +7,7 @@ use Rattle.stage.specs.Phases.{next, phaseNumber, differs}
 use Rattle.stage.specs.declared.phases.Phase.{Phase}
 use Rattle.stage.specs.declared.phases.Event.{Event}
 use Rattle.stage.specs.declared.phases.Event.the-variants.{Admit, End, Cancel}
-use Rattle.stage.proofs.Ways.{miss, pass, clash}
+use Rattle.choice.proofs.Ways.{miss, pass, clash}
 use Rattle.queue_record.specs.WellFormed.{wellFormed}
 use Rattle.queue_record.specs.declared.record.Ticket.{Ticket}
 use Rattle.queue_record.specs.declared.record.Queue.{Queue}

@@ -2,7 +2,7 @@
 use Prim.Native.Nat.{ℕ, _+_}
 use mathlib.Core.Bool.{not}
 use lib.Dec.{eqb, leb}
-use Rattle.stage.specs.Choice.{if_then_else_}
+use Rattle.choice.specs.Choice.{if_then_else_}
 use Rattle.stage.specs.Phases.{next, isPending}
 use Rattle.stage.specs.declared.phases.Event.the-variants.{Land}
 use Rattle.queue_record.specs.Refusals.{broken, badNumber, noSlot, notPending}

@@ -3,7 +3,7 @@ use Prim.Native.Nat.{ℕ}
 use mathlib.Core.Bool.{Bool, true, false, not, _&&_}
 use mathlib.Core.List.{List, [], _∷_}
 use lib.ListN.{take}
-use Rattle.stage.specs.Choice.{if_then_else_}
+use Rattle.choice.specs.Choice.{if_then_else_}
 use Rattle.stage.specs.Phases.{isPending, isSettled, isCancelled}
 use Rattle.stage.specs.Bindings.{sameSet}
 use Rattle.stage.specs.declared.phases.Phase.{Phase}

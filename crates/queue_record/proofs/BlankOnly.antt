@@ -8,7 +8,7 @@ use lib.Dec.{eqb}
 use Rattle.stage.specs.Phases.{differs}
 use Rattle.stage.specs.declared.phases.Phase.{Phase}
 use Rattle.stage.specs.declared.phases.Phase.the-variants.{Idle, Pending, Ended, Stopping, Closed}
-use Rattle.stage.proofs.Ways.{and-left, and-right, clash}
+use Rattle.choice.proofs.Ways.{and-left, and-right, clash}
 use Rattle.queue_record.specs.Record.{Sized}
 use Rattle.queue_record.specs.WellFormed.{allZero, isSelected}
 use Rattle.queue_record.specs.Openings.{scopeOf, blank}

@@ -7,7 +7,7 @@ use native.Mathlib.Omega.{arith}
 use borrow.Author.Tests.{eq-eqb, lt-ltb, le-leb, eqb-true, ltb-true, leb-true}
 use lib.Dec.{eqb, ltb}
 use lib.ListN.{getD}
-use Rattle.stage.proofs.Ways.{pass, and-left, and-right, clash}
+use Rattle.choice.proofs.Ways.{pass, and-left, and-right, clash}
 use Rattle.queue_record.specs.WellFormed.{allTrue, clauses, restZero, isSelected, ticketFits, marksFit, slotFits, selectedFits, scopeFits, wellFormed}
 use Rattle.queue_record.specs.declared.record.Ticket.{Ticket}
 use Rattle.queue_record.specs.declared.record.Selection.{Selection}

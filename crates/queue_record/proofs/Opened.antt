@@ -7,7 +7,7 @@ use native.Mathlib.Omega.{arith}
 use borrow.Author.Tests.{ltb-false}
 use lib.Dec.{ltb}
 use lib.ListN.{length}
-use Rattle.stage.proofs.Ways.{if-by}
+use Rattle.choice.proofs.Ways.{if-by}
 use Rattle.queue_record.specs.Record.{Sized}
 use Rattle.queue_record.specs.WellFormed.{wellFormed}
 use Rattle.queue_record.specs.Openings.{scopeOf, iteratorOf, blank, iteratorOpened}

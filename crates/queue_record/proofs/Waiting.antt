@@ -8,8 +8,8 @@ use borrow.Author.Tests.{eq-eqb, ne-eqb}
 use lib.Dec.{eqb}
 use lib.ListN.{length, set}
 use lib.Seq.{set-set}
-use Rattle.stage.specs.Choice.{if_then_else_}
-use Rattle.stage.proofs.Ways.{hit, miss, and-left, and-right}
+use Rattle.choice.specs.Choice.{if_then_else_}
+use Rattle.choice.proofs.Ways.{hit, miss, and-left, and-right}
 use Rattle.queue_record.specs.WellFormed.{allZero, restZero}
 use Rattle.queue_record.specs.Waiting.{occupied, without}
 

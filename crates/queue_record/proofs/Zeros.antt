@@ -9,7 +9,7 @@ use borrow.Author.Tests.{eq-eqb, ne-eqb, eqb-true, ltb-true, ltb-false}
 use lib.Dec.{eqb, ltb}
 use lib.ListN.{length, getD, drop, replicate, drop-of-length-le}
 use lib.Seq.{drop-cons, getD-drop}
-use Rattle.stage.proofs.Ways.{pass, stop, and-left, and-right}
+use Rattle.choice.proofs.Ways.{pass, stop, and-left, and-right}
 use Rattle.queue_record.specs.WellFormed.{allZero, restZero}
 
 -- ---- one step of the walk

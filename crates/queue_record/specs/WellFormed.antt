@@ -4,7 +4,7 @@ use mathlib.Core.Bool.{Bool, true, false, not, _&&_, _||_}
 use mathlib.Core.List.{List, [], _∷_}
 use lib.Dec.{eqb, leb, ltb}
 use lib.ListN.{getD, drop}
-use Rattle.stage.specs.Choice.{implies}
+use Rattle.choice.specs.Choice.{implies}
 use Rattle.stage.specs.Phases.{isSettled}
 use Rattle.stage.specs.declared.phases.Phase.{Phase}
 use Rattle.queue_record.specs.declared.record.Kind.{Kind}

@@ -1,6 +1,6 @@
 -- Admit, end and cancel: document 01, "Stage phases"
 use mathlib.Core.Bool.{Bool, not}
-use Rattle.stage.specs.Choice.{if_then_else_}
+use Rattle.choice.specs.Choice.{if_then_else_}
 use Rattle.stage.specs.Phases.{next, isPending}
 use Rattle.stage.specs.declared.phases.Phase.{Phase}
 use Rattle.stage.specs.declared.phases.Event.the-variants.{Admit, End, Cancel}

@@ -3,7 +3,7 @@ use Prim.Native.Nat.{ℕ, _+_}
 use mathlib.Core.Bool.{Bool, true, false, not, _&&_}
 use lib.Dec.{eqb, leb, ltb}
 use lib.ListN.{getD}
-use Rattle.stage.specs.Choice.{if_then_else_}
+use Rattle.choice.specs.Choice.{if_then_else_}
 use Rattle.queue_record.specs.Refusals.{broken, noAttempt, notOut, keptOnDone, noRetry, hollow, badOutcome}
 use Rattle.queue_record.specs.Record.{withNext, withSlot, withSelection, withFailed, withIssued}
 use Rattle.queue_record.specs.WellFormed.{wellFormed}

@@ -6,7 +6,7 @@ use mathlib.Core.List.{List}
 use lib.ListN.{getD, drop}
 use lib.Seq.{getD-take, getD-drop}
 use borrow.Author.Tests.{eq-eqb, ne-eqb, leb-true}
-use Rattle.stage.proofs.Ways.{hit, miss, pass, stop, and-left}
+use Rattle.choice.proofs.Ways.{hit, miss, pass, stop, and-left}
 use Rattle.queue_record.specs.WellFormed.{tokensFit, bindingsFit, restZero, isSelected, ticketFits, marksFit, selectedFits, scopeFits, wellFormed}
 use Rattle.queue_record.specs.declared.record.Ticket.{Ticket}
 use Rattle.queue_record.specs.declared.record.Selection.the-variants.{Free, Of}

@@ -8,7 +8,7 @@ use native.Mathlib.Numerals.{add-one}
 use borrow.Author.Tests.{ne-eqb}
 use lib.Dec.{eqb}
 use lib.ListN.{length, getD}
-use Rattle.stage.proofs.Ways.{and-left, and-right}
+use Rattle.choice.proofs.Ways.{and-left, and-right}
 use Rattle.queue_record.specs.WellFormed.{allZero, restZero}
 use Rattle.queue_record.specs.Waiting.{occupied}
 use Rattle.queue_record.specs.Newest.{lastOr, newest}

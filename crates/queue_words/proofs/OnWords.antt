@@ -4,7 +4,7 @@ use mathlib.Core.Path.{_≡_, refl, sym, ap, _∙_}
 use mathlib.Core.Bool.{Bool, true, false, not}
 use mathlib.Core.List.{List}
 use lib.ListN.{length}
-use Rattle.stage.proofs.Ways.{hit, miss, pass, and-left, and-right}
+use Rattle.choice.proofs.Ways.{hit, miss, pass, and-left, and-right}
 use Rattle.queue_record.specs.Refusals.{broken}
 use Rattle.queue_record.specs.WellFormed.{restZero, wellFormed}
 use Rattle.queue_record.specs.Record.{Sized}

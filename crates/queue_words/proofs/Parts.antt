@@ -4,11 +4,11 @@ use mathlib.Core.Path.{_≡_, refl, sym, ap, _∙_}
 use mathlib.Core.Bool.{Bool, true, false, _&&_}
 use native.Mathlib.Omega.{arith}
 use borrow.Author.Tests.{eq-eqb, ne-eqb, le-leb, eqb-true}
-use Rattle.stage.specs.Choice.{implies}
+use Rattle.choice.specs.Choice.{implies}
 use lib.Dec.{eqb}
 use Rattle.stage.specs.Phases.{phaseNumber, phaseAt}
 use Rattle.stage.specs.declared.phases.Phase.{Phase}
-use Rattle.stage.proofs.Ways.{pass, and-left, and-right}
+use Rattle.choice.proofs.Ways.{pass, and-left, and-right}
 use Rattle.stage.proofs.Table.{phase-below}
 use Rattle.queue_record.specs.declared.record.Kind.{Kind}
 use Rattle.queue_record.specs.declared.record.Kind.the-variants.{Scope, Iterator}

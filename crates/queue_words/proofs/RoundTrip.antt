@@ -9,7 +9,7 @@ use lib.Dec.{eqb, leb}
 use lib.ListN.{length, take, drop, length-append, length-drop, take-append-drop, drop-of-length-le}
 use lib.Seq.{drop-cons, drop-drop, take-at, drop-at, getD-at, length-take-le}
 use Rattle.stage.specs.Phases.{phaseAt}
-use Rattle.stage.proofs.Ways.{pass, and-left, and-right}
+use Rattle.choice.proofs.Ways.{pass, and-left, and-right}
 use Rattle.stage.proofs.Table.{phase-back}
 use Rattle.queue_record.specs.Record.{Sized}
 use Rattle.queue_record.specs.declared.record.Queue.{Queue}

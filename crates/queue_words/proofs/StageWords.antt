@@ -6,7 +6,7 @@ use mathlib.Core.List.{List}
 use Rattle.stage.specs.Phases.{next, isPending, phaseAt}
 use Rattle.stage.specs.declared.phases.Phase.{Phase}
 use Rattle.stage.specs.declared.phases.Event.the-variants.{End, Cancel}
-use Rattle.stage.proofs.Ways.{hit, miss}
+use Rattle.choice.proofs.Ways.{hit, miss}
 use Rattle.queue_record.specs.Refusals.{broken}
 use Rattle.queue_record.specs.Record.{withPhase}
 use Rattle.queue_questions.specs.Questions.{yesOrNo, matches}

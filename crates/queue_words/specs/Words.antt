@@ -4,7 +4,7 @@ use mathlib.Core.Bool.{Bool, true, false, _&&_}
 use mathlib.Core.List.{List, [], _∷_, _++_}
 use lib.Dec.{eqb, leb}
 use lib.ListN.{length, getD, take, drop}
-use Rattle.stage.specs.Choice.{if_then_else_, implies}
+use Rattle.choice.specs.Choice.{if_then_else_, implies}
 use Rattle.stage.specs.Phases.{phaseNumber, phaseAt}
 use Rattle.queue_record.specs.WellFormed.{tokensFit, bindingsFit, restZero, isSelected, ticketFits, marksFit, selectedFits, scopeFits, wellFormed}
 use Rattle.queue_record.specs.declared.record.Kind.{Kind}

@@ -9,7 +9,7 @@ use lib.Dec.{eqb}
 use lib.ListN.{length, getD, drop, drop-of-length-le}
 use lib.Seq.{drop-cons}
 use Rattle.stage.specs.Bindings.{member, within, sameSet, SameMembers}
-use Rattle.stage.proofs.Ways.{pass, stop, either, other, and-left, and-right, clash, same-truth}
+use Rattle.choice.proofs.Ways.{pass, stop, either, other, and-left, and-right, clash, same-truth}
 
 -- ---- one step of each walk
 module _ (x : ℕ) (s : List ℕ) (i : ℕ) where

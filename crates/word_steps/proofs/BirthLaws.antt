@@ -8,7 +8,7 @@ use borrow.Author.Tests.{eq-eqb, ne-eqb, leb-false}
 use lib.Dec.{eqb, leb}
 use Rattle.stage.specs.Phases.{next, isPending, phaseAt}
 use Rattle.stage.specs.declared.phases.Event.the-variants.{Land}
-use Rattle.stage.proofs.Ways.{hit, miss, if-by}
+use Rattle.choice.proofs.Ways.{hit, miss, if-by}
 use Rattle.queue_record.specs.Refusals.{done, broken}
 use Rattle.queue_record.specs.Record.{withPhase}
 use Rattle.queue_record.specs.WellFormed.{wellFormed}

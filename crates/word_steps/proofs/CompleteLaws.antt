@@ -6,7 +6,7 @@ use mathlib.Core.List.{List}
 use native.Mathlib.Omega.{arith}
 use borrow.Author.Tests.{eq-eqb, ne-eqb, not-false}
 use lib.Dec.{eqb, ltb}
-use Rattle.stage.proofs.Ways.{hit, miss, if-by}
+use Rattle.choice.proofs.Ways.{hit, miss, if-by}
 use Rattle.queue_record.specs.Refusals.{done, broken}
 use Rattle.queue_record.specs.WellFormed.{wellFormed}
 use Rattle.queue_record.specs.declared.record.Ticket.{Ticket}

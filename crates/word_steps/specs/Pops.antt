@@ -3,7 +3,7 @@ use Prim.Native.Nat.{ℕ, _+_}
 use mathlib.Core.List.{List, [], _∷_}
 use lib.Dec.{leb}
 use lib.ListN.{set}
-use Rattle.stage.specs.Choice.{if_then_else_}
+use Rattle.choice.specs.Choice.{if_then_else_}
 use Rattle.queue_record.specs.Refusals.{done, noAttempt}
 use Rattle.queue_record.specs.Waiting.{occupied}
 use Rattle.queue_record.specs.Newest.{newest}

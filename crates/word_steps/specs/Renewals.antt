@@ -2,7 +2,7 @@
 use Prim.Native.Nat.{ℕ, _+_}
 use mathlib.Core.List.{List}
 use lib.ListN.{set}
-use Rattle.stage.specs.Choice.{if_then_else_}
+use Rattle.choice.specs.Choice.{if_then_else_}
 use Rattle.queue_record.specs.Refusals.{noRetry}
 use Rattle.queue_record.specs.Record.{withNext, withSelection, withFailed}
 use Rattle.queue_record.specs.declared.record.Ticket.{Ticket}

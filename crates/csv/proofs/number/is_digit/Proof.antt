@@ -1,7 +1,7 @@
 -- Both bounds
 use mathlib.Core.Path.{sym}
 use borrow.Author.Tests.{lt-leb, le-leb}
-use Rattle.stage.proofs.Ways.{stop, pass}
+use Rattle.choice.proofs.Ways.{stop, pass}
 use Rattle.csv.specs.Reading.{isDigit}
 use Rattle.csv.proofs.number.is_digit.Statement.{statement}
 use Rattle.csv.proofs.number.is_digit.Tie as tie

@@ -3,7 +3,7 @@ use Prim.Native.Nat.{_+_}
 use mathlib.Core.Path.{sym, _∙_, ap}
 use lib.ListN.{drop}
 use borrow.Author.Tests.{le-leb, lt-leb, eq-eqb, ne-eqb, not-true, not-false}
-use Rattle.stage.proofs.Ways.{hit, miss}
+use Rattle.choice.proofs.Ways.{hit, miss}
 use Rattle.csv.specs.Reading.{numberAt, moreDigits}
 use borrow.Author.Needs.{needs}
 use Rattle.csv.proofs.number.number_at.Statement.{statement}

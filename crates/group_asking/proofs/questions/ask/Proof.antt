@@ -1,6 +1,6 @@
 -- By the mark live
 use mathlib.Core.Path.{sym, _∙_}
-use Rattle.stage.proofs.Ways.{hit, miss}
+use Rattle.choice.proofs.Ways.{hit, miss}
 use borrow.Author.Needs.{needs}
 use Rattle.group_asking.proofs.questions.ask.Statement.{statement}
 use Rattle.group_asking.proofs.questions.ask.Tie as tie

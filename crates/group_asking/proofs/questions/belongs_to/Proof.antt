@@ -1,6 +1,6 @@
 -- The sum, subtracted
 use mathlib.Core.Path.{sym, _∙_}
-use Rattle.stage.proofs.Ways.{pass, stop}
+use Rattle.choice.proofs.Ways.{pass, stop}
 use Rattle.group_asking.proofs.Domains.{sum-short, sum-other, sum-is}
 use borrow.Author.Needs.{needs}
 use Rattle.group_asking.proofs.questions.belongs_to.Statement.{statement}

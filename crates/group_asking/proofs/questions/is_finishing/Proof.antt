@@ -2,7 +2,7 @@
 use mathlib.Core.Path.{sym, ap, _∙_}
 use mathlib.Core.Bool.{not}
 use borrow.Author.Tests.{eq-eqb, ne-eqb}
-use Rattle.stage.proofs.Ways.{pass, stop, either, other}
+use Rattle.choice.proofs.Ways.{pass, stop, either, other}
 use Rattle.group_asking.specs.Questions.{isYes}
 use borrow.Author.Needs.{needs}
 use Rattle.group_asking.proofs.questions.is_finishing.Statement.{statement}

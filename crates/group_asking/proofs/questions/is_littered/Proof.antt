@@ -2,7 +2,7 @@
 use mathlib.Core.Path.{sym, ap, _∙_}
 use mathlib.Core.Bool.{not}
 use borrow.Author.Tests.{eq-eqb, ne-eqb}
-use Rattle.stage.proofs.Ways.{pass, stop}
+use Rattle.choice.proofs.Ways.{pass, stop}
 use borrow.Author.Needs.{needs}
 use Rattle.group_asking.proofs.questions.is_littered.Statement.{statement}
 use Rattle.group_asking.proofs.questions.is_littered.Tie as tie

@@ -1,7 +1,7 @@
 -- Asked of a live place alone
 use mathlib.Core.Path.{sym, _∙_}
 use borrow.Author.Tests.{not-true, not-false}
-use Rattle.stage.proofs.Ways.{pass, stop}
+use Rattle.choice.proofs.Ways.{pass, stop}
 use mathlib.Core.List.{[]}
 use lib.ListN.{drop}
 use Rattle.group_asking.specs.Questions.{asksOf}

@@ -2,7 +2,7 @@
 use mathlib.Core.Path.{sym, ap, _∙_}
 use mathlib.Core.Bool.{Bool, not}
 use borrow.Author.Tests.{not-true, not-false}
-use Rattle.stage.specs.Choice.{implies}
+use Rattle.choice.specs.Choice.{implies}
 use Rattle.group_asking.specs.Scan.{someYes}
 use Rattle.group_asking.specs.declared.questions.Question.the-variants.{Live}
 use mathlib.Core.List.{[]}

@@ -2,7 +2,7 @@
 use mathlib.Core.Path.{sym, ap, _∙_}
 use mathlib.Core.Bool.{not, and-true}
 use borrow.Author.Tests.{le-leb, lt-leb, not-true, not-false}
-use Rattle.stage.proofs.Ways.{pass, stop}
+use Rattle.choice.proofs.Ways.{pass, stop}
 use Rattle.group_check.specs.WellFormed.{wellGrouped}
 use borrow.Author.Needs.{needs}
 use Rattle.group_check.proofs.check.well_grouped.Statement.{statement}

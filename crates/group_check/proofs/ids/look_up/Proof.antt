@@ -1,6 +1,6 @@
 -- Refused with 1, with 10, or where it is
 use mathlib.Core.Path.{sym, ap, _∙_}
-use Rattle.stage.proofs.Ways.{hit, miss, negated}
+use Rattle.choice.proofs.Ways.{hit, miss, negated}
 use Rattle.group_check.specs.Ids.{spotAt, spotOf}
 use borrow.Author.Needs.{needs}
 use Rattle.group_check.proofs.ids.look_up.Statement.{statement}

@@ -1,7 +1,7 @@
 -- Refused with 1 or 10, with 13, or freed
 use mathlib.Core.Path.{_≡_, sym, ap, _∙_}
 use lib.ListN.{length, length-map}
-use Rattle.stage.proofs.Ways.{hit, miss, negated}
+use Rattle.choice.proofs.Ways.{hit, miss, negated}
 use Rattle.group_record.specs.Record.{withPlace}
 use Rattle.group_asking.specs.Questions.{drained}
 use Rattle.group_record.specs.declared.record.Groups.{Groups}

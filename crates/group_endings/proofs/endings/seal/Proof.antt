@@ -1,6 +1,6 @@
 -- Refused with 1 or 12, with 13, or all dropped
 use mathlib.Core.Path.{sym, ap, _∙_}
-use Rattle.stage.proofs.Ways.{hit, miss}
+use Rattle.choice.proofs.Ways.{hit, miss}
 use Rattle.group_record.specs.declared.record.Groups.{Groups}
 use Rattle.group_endings.specs.Endings.{sealedBy, sealedIn}
 use Rattle.group_endings.specs.declared.endings.Closed.{Closed}

@@ -1,6 +1,6 @@
 -- Refused with 1 or 12, or open
 use mathlib.Core.Path.{sym, _∙_}
-use Rattle.stage.proofs.Ways.{hit, miss, negated}
+use Rattle.choice.proofs.Ways.{hit, miss, negated}
 use borrow.Author.Needs.{needs}
 use Rattle.group_lives.proofs.openings.is_unsealed.Statement.{statement}
 use Rattle.group_lives.proofs.openings.is_unsealed.Tie as tie

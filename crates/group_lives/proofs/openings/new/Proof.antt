@@ -1,7 +1,7 @@
 -- Refused with 19, or the root is put in
 use mathlib.Core.Path.{sym, ap, _∙_}
 use borrow.Author.Tests.{lt-ltb, le-ltb}
-use Rattle.stage.proofs.Ways.{hit, miss}
+use Rattle.choice.proofs.Ways.{hit, miss}
 use Rattle.queue_record.specs.declared.record.Queue.{Queue}
 use Rattle.queue_record.specs.declared.openings.Opened.{Opened}
 use Rattle.group_record.specs.Record.{emptyOf, opening}

@@ -1,7 +1,7 @@
 -- Refused with 11 or 19, or the place
 use mathlib.Core.Path.{sym, ap, _∙_}
 use borrow.Author.Tests.{le-leb, lt-leb}
-use Rattle.stage.proofs.Ways.{hit, miss}
+use Rattle.choice.proofs.Ways.{hit, miss}
 use Rattle.group_lives.specs.Openings.{roomAt}
 use borrow.Author.Needs.{needs}
 use Rattle.group_lives.proofs.openings.room.Statement.{statement}

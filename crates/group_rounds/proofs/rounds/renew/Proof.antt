@@ -1,7 +1,7 @@
 -- As it is, or retried
 use mathlib.Core.Path.{sym, ap, _∙_}
 use borrow.Author.Tests.{not-true, not-false}
-use Rattle.stage.proofs.Ways.{hit, miss, pass, stop}
+use Rattle.choice.proofs.Ways.{hit, miss, pass, stop}
 use Rattle.queue_steps.specs.declared.attempts.RetryAnswer.{RetryAnswer}
 use Rattle.group_record.specs.Record.{holding}
 use borrow.Author.Needs.{needs}

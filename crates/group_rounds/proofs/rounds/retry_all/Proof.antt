@@ -1,6 +1,6 @@
 -- Refused, no, or every failed group retried
 use mathlib.Core.Path.{sym, ap, _∙_}
-use Rattle.stage.proofs.Ways.{hit, miss, negated}
+use Rattle.choice.proofs.Ways.{hit, miss, negated}
 use Rattle.queue_questions.specs.declared.questions.Told.the-variants.{Yes}
 use Rattle.group_rounds.specs.Rounds.{roundDone, retriedAll}
 use borrow.Author.Needs.{needs}

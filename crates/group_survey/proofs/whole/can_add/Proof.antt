@@ -1,6 +1,6 @@
 -- Refused, or told
 use mathlib.Core.Path.{sym, ap, _∙_}
-use Rattle.stage.proofs.Ways.{hit, miss, negated}
+use Rattle.choice.proofs.Ways.{hit, miss, negated}
 use Rattle.queue_questions.specs.Questions.{yesOrNo}
 use borrow.Author.Needs.{needs}
 use Rattle.group_survey.proofs.whole.can_add.Statement.{statement}

@@ -1,7 +1,7 @@
 -- Refused, or told
 use mathlib.Core.Path.{sym, ap, _∙_}
 use mathlib.Core.Bool.{not}
-use Rattle.stage.proofs.Ways.{hit, miss, negated}
+use Rattle.choice.proofs.Ways.{hit, miss, negated}
 use Rattle.queue_questions.specs.Questions.{yesOrNo}
 use borrow.Author.Needs.{needs}
 use Rattle.group_survey.proofs.whole.can_finish.Statement.{statement}

@@ -2,7 +2,7 @@
 use mathlib.Core.Path.{sym, ap, _∙_}
 use mathlib.Core.Bool.{not}
 use borrow.Author.Tests.{not-true, not-false}
-use Rattle.stage.proofs.Ways.{pass, stop}
+use Rattle.choice.proofs.Ways.{pass, stop}
 use borrow.Author.Needs.{needs}
 use Rattle.group_survey.proofs.whole.has_room.Statement.{statement}
 use Rattle.group_survey.proofs.whole.has_room.Tie as tie

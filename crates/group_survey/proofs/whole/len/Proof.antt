@@ -1,7 +1,7 @@
 -- Refused, or counted
 use mathlib.Core.Path.{sym, ap, _∙_}
 use Prim.Native.Nat.{ℕ}
-use Rattle.stage.proofs.Ways.{hit, miss, negated}
+use Rattle.choice.proofs.Ways.{hit, miss, negated}
 use Rattle.group_survey.specs.declared.whole.LenTold.{LenTold}
 use borrow.Author.Needs.{needs}
 use Rattle.group_survey.proofs.whole.len.Statement.{statement}

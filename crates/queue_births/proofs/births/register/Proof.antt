@@ -1,7 +1,7 @@
 -- A return for each refusal, and the birth
 use mathlib.Core.Path.{sym, ap, _∙_}
 use borrow.Author.Tests.{eq-eqb, ne-eqb, le-leb, lt-leb}
-use Rattle.stage.proofs.Ways.{hit, miss, negated}
+use Rattle.choice.proofs.Ways.{hit, miss, negated}
 use Rattle.queue_births.specs.Births.{born, registered}
 use borrow.Author.Needs.{needs}
 use Rattle.queue_births.proofs.births.register.Statement.{statement}

@@ -5,7 +5,7 @@ use lib.Seq.{length-take-le}
 use Rattle.queue_record.proofs.Fit.{fit}
 use mathlib.Core.Path.{_≡_, sym, ap, _∙_}
 use borrow.Author.Tests.{not-false}
-use Rattle.stage.proofs.Ways.{hit, miss, negated}
+use Rattle.choice.proofs.Ways.{hit, miss, negated}
 use Rattle.queue_questions.specs.Questions.{yesOrNo, canFinishTold}
 use borrow.Author.Needs.{needs}
 use native.Mathlib.Omega.{arith}

@@ -1,7 +1,7 @@
 -- Refused, no without a selection, or told
 use mathlib.Core.Path.{sym, ap, _∙_}
 use borrow.Author.Tests.{not-false}
-use Rattle.stage.proofs.Ways.{hit, miss, negated}
+use Rattle.choice.proofs.Ways.{hit, miss, negated}
 use Rattle.queue_record.proofs.Fit.{selected-below}
 use Rattle.queue_record.specs.declared.record.Selection.{Selection}
 use Rattle.queue_steps.specs.Attempts.{retryAllowed}

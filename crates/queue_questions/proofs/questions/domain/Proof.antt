@@ -1,6 +1,6 @@
 -- Refused, or told
 use mathlib.Core.Path.{sym}
-use Rattle.stage.proofs.Ways.{hit, miss, negated}
+use Rattle.choice.proofs.Ways.{hit, miss, negated}
 use Rattle.queue_questions.specs.Questions.{domainTold}
 use borrow.Author.Needs.{needs}
 use Rattle.queue_questions.proofs.questions.domain.Statement.{statement}

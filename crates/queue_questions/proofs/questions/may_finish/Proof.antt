@@ -2,7 +2,7 @@
 use mathlib.Core.Path.{sym, ap, _∙_}
 use mathlib.Core.Bool.{not}
 use denote.Ref.{now}
-use Rattle.stage.proofs.Ways.{pass}
+use Rattle.choice.proofs.Ways.{pass}
 use Rattle.queue_questions.specs.Questions.{finishable}
 use Rattle.queue_record.specs.declared.record.Selection.{Selection}
 use borrow.Author.Needs.{needs}

@@ -1,7 +1,7 @@
 -- Marks, then numbers
 use mathlib.Core.Path.{sym, _∙_}
 use borrow.Author.Tests.{not-true, not-false}
-use Rattle.stage.proofs.Ways.{pass, stop}
+use Rattle.choice.proofs.Ways.{pass, stop}
 use borrow.Author.Needs.{needs}
 use Rattle.queue_record.proofs.blanks.is_blank.Statement.{statement}
 use Rattle.queue_record.proofs.blanks.is_blank.Tie as tie

@@ -1,7 +1,7 @@
 -- Part by part
 use mathlib.Core.Path.{sym, ap, _∙_}
 use mathlib.Core.Bool.{not}
-use Rattle.stage.proofs.Ways.{pass, stop}
+use Rattle.choice.proofs.Ways.{pass, stop}
 use Rattle.queue_record.specs.WellFormed.{isSelected}
 use Rattle.queue_record.specs.Blank.{isScope}
 use borrow.Author.Needs.{needs}

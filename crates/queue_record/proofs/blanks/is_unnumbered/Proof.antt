@@ -1,7 +1,7 @@
 -- The arrays, then number by number
 use mathlib.Core.Path.{sym, _∙_}
 use borrow.Author.Tests.{eq-eqb, ne-eqb, not-true, not-false}
-use Rattle.stage.proofs.Ways.{pass, stop}
+use Rattle.choice.proofs.Ways.{pass, stop}
 use borrow.Author.Needs.{needs}
 use Rattle.queue_record.proofs.blanks.is_unnumbered.Statement.{statement}
 use Rattle.queue_record.proofs.blanks.is_unnumbered.Tie as tie

@@ -1,7 +1,7 @@
 -- A scope is asked for its bindings, then its phase
 use mathlib.Core.Path.{sym, ap, _∙_}
 use borrow.Author.Tests.{eq-eqb, ne-eqb}
-use Rattle.stage.proofs.Ways.{pass, stop}
+use Rattle.choice.proofs.Ways.{pass, stop}
 use Rattle.queue_record.specs.WellFormed.{scopeFits}
 use Rattle.queue_record.specs.declared.record.Kind.{Kind}
 use borrow.Author.Needs.{needs}

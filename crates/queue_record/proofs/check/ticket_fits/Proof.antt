@@ -1,7 +1,7 @@
 -- Part by part
 use mathlib.Core.Path.{sym, _∙_}
 use borrow.Author.Tests.{eq-eqb, ne-eqb, lt-ltb, le-ltb}
-use Rattle.stage.proofs.Ways.{pass, stop}
+use Rattle.choice.proofs.Ways.{pass, stop}
 use Rattle.queue_record.proofs.check.ticket_fits.Statement.{statement}
 use Rattle.queue_record.proofs.check.ticket_fits.Tie as tie
 

@@ -5,7 +5,7 @@ use mathlib.Core.Bool.{Bool, true, _&&_, and-true}
 use mathlib.Core.List.{[], _∷_}
 use lib.ListN.{drop}
 use borrow.Author.Tests.{le-leb, lt-leb, not-true, not-false}
-use Rattle.stage.proofs.Ways.{pass, stop}
+use Rattle.choice.proofs.Ways.{pass, stop}
 use Rattle.queue_record.specs.WellFormed.{allTrue, ticketFits, marksFit, isSelected, selectedFits, clauses, wellFormed}
 use Rattle.queue_record.proofs.Marks.{free-failed, free-issued}
 use Rattle.queue_record.proofs.Fit.{ticket-below}

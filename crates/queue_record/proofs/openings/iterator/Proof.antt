@@ -1,7 +1,7 @@
 -- Refused with the blank queue, or open with the given bindings
 use mathlib.Core.Path.{sym, ap, _∙_}
 use borrow.Author.Tests.{lt-ltb, le-ltb}
-use Rattle.stage.proofs.Ways.{hit, miss}
+use Rattle.choice.proofs.Ways.{hit, miss}
 use Rattle.queue_record.specs.Openings.{iteratorOpened, iteratorOf, blank}
 use Rattle.queue_record.specs.Refusals.{tooManyBindings}
 use Rattle.queue_record.specs.declared.openings.Opened.the-variants.{Refused}

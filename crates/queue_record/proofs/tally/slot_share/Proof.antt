@@ -1,7 +1,7 @@
 -- Empty, the selected one, or one that waits
 use mathlib.Core.Path.{sym, _∙_, ap}
 use borrow.Author.Tests.{eq-eqb, ne-eqb}
-use Rattle.stage.proofs.Ways.{hit, miss}
+use Rattle.choice.proofs.Ways.{hit, miss}
 use Rattle.queue_record.specs.Waiting.{shareOf}
 use borrow.Author.Needs.{needs}
 use Rattle.queue_record.proofs.tally.slot_share.Statement.{statement}

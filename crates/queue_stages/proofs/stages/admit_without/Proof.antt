@@ -1,6 +1,6 @@
 -- Refused, or admitted without a match
 use mathlib.Core.Path.{sym, _∙_}
-use Rattle.stage.proofs.Ways.{hit, miss, negated}
+use Rattle.choice.proofs.Ways.{hit, miss, negated}
 use Rattle.queue_stages.specs.Stages.{admitted}
 use borrow.Author.Needs.{needs}
 use Rattle.queue_stages.proofs.stages.admit_without.Statement.{statement}

@@ -1,6 +1,6 @@
 -- The table, if matched
 use mathlib.Core.Path.{sym, _∙_}
-use Rattle.stage.proofs.Ways.{hit, miss}
+use Rattle.choice.proofs.Ways.{hit, miss}
 use borrow.Author.Needs.{needs}
 use Rattle.queue_stages.proofs.stages.after_admit.Statement.{statement}
 use Rattle.queue_stages.proofs.stages.after_admit.Tie as tie

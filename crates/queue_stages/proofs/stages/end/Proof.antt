@@ -1,6 +1,6 @@
 -- Refused, or what was pending told and the stage moved
 use mathlib.Core.Path.{sym, ap, _∙_}
-use Rattle.stage.proofs.Ways.{hit, miss, negated}
+use Rattle.choice.proofs.Ways.{hit, miss, negated}
 use Rattle.queue_record.specs.Record.{withPhase}
 use Rattle.queue_questions.specs.Questions.{yesOrNo}
 use Rattle.queue_stages.specs.Stages.{ended}

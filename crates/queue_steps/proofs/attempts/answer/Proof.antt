@@ -1,7 +1,7 @@
 -- Done clears the selection, Failed sets the mark
 use mathlib.Core.Path.{sym, _∙_}
 use borrow.Author.Tests.{eq-eqb, ne-eqb}
-use Rattle.stage.proofs.Ways.{hit, miss}
+use Rattle.choice.proofs.Ways.{hit, miss}
 use borrow.Author.Needs.{needs}
 use Rattle.queue_steps.proofs.attempts.answer.Statement.{statement}
 use Rattle.queue_steps.proofs.attempts.answer.Tie as tie

@@ -1,7 +1,7 @@
 -- A return for each refusal, and the answer taken in
 use mathlib.Core.Path.{sym, ap, _∙_}
 use borrow.Author.Tests.{lt-ltb, le-ltb, not-false}
-use Rattle.stage.proofs.Ways.{hit, miss, negated}
+use Rattle.choice.proofs.Ways.{hit, miss, negated}
 use Rattle.queue_record.specs.declared.record.Queue.{Queue}
 use Rattle.queue_steps.specs.Attempts.{completed}
 use Rattle.queue_steps.specs.declared.attempts.CompleteAnswer.{CompleteAnswer}

@@ -1,7 +1,7 @@
 -- Issued, and the selected ticket is this one
 use mathlib.Core.Path.{sym, ap, _∙_}
 use borrow.Author.Tests.{not-true, not-false}
-use Rattle.stage.proofs.Ways.{pass, stop}
+use Rattle.choice.proofs.Ways.{pass, stop}
 use Rattle.queue_steps.specs.Attempts.{selects}
 use Rattle.queue_record.specs.declared.record.Selection.{Selection}
 use borrow.Author.Needs.{needs}

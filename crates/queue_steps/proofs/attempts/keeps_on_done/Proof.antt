@@ -1,7 +1,7 @@
 -- Asked of Done alone
 use mathlib.Core.Path.{sym}
 use borrow.Author.Tests.{eq-eqb, ne-eqb}
-use Rattle.stage.proofs.Ways.{pass, stop}
+use Rattle.choice.proofs.Ways.{pass, stop}
 use Rattle.queue_steps.proofs.attempts.keeps_on_done.Statement.{statement}
 use Rattle.queue_steps.proofs.attempts.keeps_on_done.Tie as tie
 

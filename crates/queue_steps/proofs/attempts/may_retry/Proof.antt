@@ -2,7 +2,7 @@
 use mathlib.Core.Path.{sym, ap, _∙_}
 use mathlib.Core.Bool.{not}
 use borrow.Author.Tests.{eq-eqb, ne-eqb, not-true, not-false}
-use Rattle.stage.proofs.Ways.{pass, stop}
+use Rattle.choice.proofs.Ways.{pass, stop}
 use Rattle.queue_steps.proofs.attempts.may_retry.Statement.{statement}
 use Rattle.queue_steps.proofs.attempts.may_retry.Tie as tie
 

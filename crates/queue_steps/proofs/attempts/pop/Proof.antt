@@ -1,7 +1,7 @@
 -- Nothing while one is out or failed; else the ready ticket, or a fresh one
 use mathlib.Core.Path.{sym, ap, _∙_}
 use borrow.Author.Tests.{eq-eqb, ne-eqb, not-false}
-use Rattle.stage.proofs.Ways.{hit, miss, negated}
+use Rattle.choice.proofs.Ways.{hit, miss, negated}
 use Rattle.queue_record.specs.Waiting.{occupied, others}
 use Rattle.queue_record.specs.declared.record.Selection.{Selection}
 use Rattle.queue_record.proofs.Fit.{selected-below}

@@ -3,7 +3,7 @@ use Prim.Native.Nat.{_<_}
 use lib.ListN.{getD}
 use mathlib.Core.Path.{sym, ap, _∙_}
 use borrow.Author.Tests.{not-false}
-use Rattle.stage.proofs.Ways.{hit, miss, negated}
+use Rattle.choice.proofs.Ways.{hit, miss, negated}
 use Rattle.queue_record.proofs.Fit.{selected-below}
 use Rattle.queue_steps.specs.Attempts.{retriedBy, retried}
 use Rattle.queue_steps.proofs.Out.{retry-room}

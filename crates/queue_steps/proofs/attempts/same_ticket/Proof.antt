@@ -1,7 +1,7 @@
 -- Part by part
 use mathlib.Core.Path.{sym, _∙_}
 use borrow.Author.Tests.{eq-eqb, ne-eqb}
-use Rattle.stage.proofs.Ways.{pass, stop}
+use Rattle.choice.proofs.Ways.{pass, stop}
 use Rattle.queue_steps.proofs.attempts.same_ticket.Statement.{statement}
 use Rattle.queue_steps.proofs.attempts.same_ticket.Tie as tie
 

@@ -1,7 +1,7 @@
 -- The marks, then the ticket; of the reference to an array is known that there are 92 words
 use mathlib.Core.Path.{sym, _∙_}
 use borrow.Author.Tests.{eq-eqb, not-true, not-false}
-use Rattle.stage.proofs.Ways.{pass, stop}
+use Rattle.choice.proofs.Ways.{pass, stop}
 use Rattle.queue_words.specs.Words.{encodes}
 use borrow.Author.Needs.{needs}
 use Rattle.queue_words.proofs.check.encode_record.Statement.{statement}

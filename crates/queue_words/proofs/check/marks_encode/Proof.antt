@@ -1,7 +1,7 @@
 -- Number by number
 use mathlib.Core.Path.{sym, _∙_}
 use borrow.Author.Tests.{le-leb, lt-leb}
-use Rattle.stage.proofs.Ways.{pass, stop}
+use Rattle.choice.proofs.Ways.{pass, stop}
 use Rattle.queue_words.proofs.check.marks_encode.Statement.{statement}
 use Rattle.queue_words.proofs.check.marks_encode.Tie as tie
 

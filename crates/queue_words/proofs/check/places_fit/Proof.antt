@@ -1,7 +1,7 @@
 -- One return a clause, in the order of the definition
 use mathlib.Core.Path.{sym, _∙_}
 use borrow.Author.Tests.{le-leb, lt-leb, not-true, not-false}
-use Rattle.stage.proofs.Ways.{pass, stop}
+use Rattle.choice.proofs.Ways.{pass, stop}
 use Rattle.queue_words.specs.Words.{placesFit, queueOf}
 use borrow.Author.Needs.{needs}
 use Rattle.queue_words.proofs.check.places_fit.Statement.{statement}

@@ -1,7 +1,7 @@
 -- The words encode a record, its places fit, and its selection
 use mathlib.Core.Path.{sym, _∙_}
 use borrow.Author.Tests.{not-true, not-false}
-use Rattle.stage.proofs.Ways.{pass, stop}
+use Rattle.choice.proofs.Ways.{pass, stop}
 use Rattle.queue_words.proofs.CheckParts.{no-code, in-parts, places-few}
 use borrow.Author.Needs.{needs}
 use Rattle.queue_words.proofs.check.sound.Statement.{statement}

@@ -1,7 +1,7 @@
 -- Asked only where nothing is selected, word by word
 use mathlib.Core.Path.{sym, _∙_}
 use borrow.Author.Tests.{eq-eqb, ne-eqb}
-use Rattle.stage.proofs.Ways.{pass, stop}
+use Rattle.choice.proofs.Ways.{pass, stop}
 use Rattle.queue_words.proofs.Parts.{ticket-selected, ticket-free}
 use Rattle.queue_words.proofs.check.ticket_encodes.Statement.{statement}
 use Rattle.queue_words.proofs.check.ticket_encodes.Tie as tie

@@ -1,7 +1,7 @@
 -- The choice that the test leads to
 use mathlib.Core.Path.{sym}
 use borrow.Author.Tests.{eq-eqb, ne-eqb}
-use Rattle.stage.proofs.Ways.{hit, miss}
+use Rattle.choice.proofs.Ways.{hit, miss}
 use Rattle.queue_words.proofs.decoding.selection_at.Statement.{statement}
 use Rattle.queue_words.proofs.decoding.selection_at.Tie as tie
 

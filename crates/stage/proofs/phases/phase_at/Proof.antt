@@ -1,7 +1,7 @@
 -- Each return is the choice that its tests lead to
 use mathlib.Core.Path.{sym, _∙_}
 use borrow.Author.Tests.{eq-eqb, ne-eqb}
-use Rattle.stage.proofs.Ways.{hit, miss}
+use Rattle.choice.proofs.Ways.{hit, miss}
 use Rattle.stage.proofs.phases.phase_at.Statement.{statement}
 use Rattle.stage.proofs.phases.phase_at.Tie as tie
 

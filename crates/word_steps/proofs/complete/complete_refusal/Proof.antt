@@ -1,7 +1,7 @@
 -- Test by test
 use mathlib.Core.Path.{sym, ap, _∙_}
 use borrow.Author.Tests.{lt-ltb, le-ltb}
-use Rattle.stage.proofs.Ways.{hit, miss, negated}
+use Rattle.choice.proofs.Ways.{hit, miss, negated}
 use Rattle.queue_record.specs.declared.record.Selection.{Selection}
 use Rattle.queue_steps.specs.Attempts.{isOut}
 use Rattle.queue_words.specs.Words.{word, markAt, queueOf}

@@ -1,7 +1,7 @@
 -- Done, or Failed
 use mathlib.Core.Path.{sym, _∙_}
 use borrow.Author.Tests.{eq-eqb, ne-eqb}
-use Rattle.stage.proofs.Ways.{hit, miss}
+use Rattle.choice.proofs.Ways.{hit, miss}
 use borrow.Author.Needs.{needs}
 use Rattle.word_steps.proofs.complete.settle.Statement.{statement}
 use Rattle.word_steps.proofs.complete.settle.Tie as tie

@@ -5,7 +5,7 @@ use mathlib.Core.List.{List}
 use lib.ListN.{length}
 use native.Mathlib.Omega.{arith}
 use borrow.Author.Tests.{lt-ltb, le-ltb}
-use Rattle.stage.proofs.Ways.{hit, miss}
+use Rattle.choice.proofs.Ways.{hit, miss}
 use Rattle.queue_record.specs.Openings.{blank, iteratorOpened}
 use Rattle.queue_record.specs.declared.openings.OpenAnswer.{OpenAnswer}
 use Rattle.queue_words.specs.Words.{wordsOf}

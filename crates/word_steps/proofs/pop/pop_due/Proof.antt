@@ -1,7 +1,7 @@
 -- Decision by decision
 use mathlib.Core.Path.{sym, ap, _∙_}
 use borrow.Author.Tests.{eq-eqb, ne-eqb, le-leb, lt-leb}
-use Rattle.stage.proofs.Ways.{hit, miss}
+use Rattle.choice.proofs.Ways.{hit, miss}
 use Rattle.queue_words.specs.Words.{queueOf}
 use Rattle.word_steps.specs.Pops.{freshDue, dueBy, popDue}
 use borrow.Author.Needs.{needs}
