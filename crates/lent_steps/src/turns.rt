@@ -1,4 +1,4 @@
-// A queue of one's own, lent to pop and then to complete: who calls this needs no proof by hand.
+// A queue of one's own, lent to pop and then to complete: one local through both lent calls.
 use queue_lent::complete_lent;
 use queue_lent::pop_lent;
 use queue_record::Queue;
@@ -6,7 +6,7 @@ use queue_record::Ticket;
 use queue_steps::Completed;
 use queue_steps::Popped;
 ghost use mathlib.Core.Path.{_≡_};
-ghost use Rattle.bench_lent.specs.Turned.{turned};
+ghost use Rattle.lent_steps.specs.Turned.{turned};
 
 pub struct TurnAnswer {
     pub popped: Popped,

@@ -1,4 +1,4 @@
--- `bench_lent::turns::turn` meets its contract: a walk of its MIR, by hand. A local queue is lent to `pop_lent` for a lifetime that is made for the call, comes back at the last value of the loan, and is lent to `complete_lent` in the same way.
+-- `lent_steps::turns::turn` meets its contract: a walk of its MIR, by hand. A local queue is lent to `pop_lent` for a lifetime that is made for the call, comes back at the last value of the loan, and is lent to `complete_lent` in the same way.
 -- The two loans are `lends-queue` and `returned` of `queue_lent`'s `proofs/Lending.antt`. All that it knows of the two callees is that they meet their contracts: `proofs/Callers.antt` there.
 -- When `Queue` or `Ticket` gains or loses a field, or `Popped` or `Completed` a variant: no line changes. No line names a field of `Queue`.
 -- When `TurnAnswer` gains a field or changes their order: `all` and `all-is`, and the operands of `agg`.
@@ -41,8 +41,8 @@ use Rattle.queue_record.specs.declared.record.Ticket.{Ticket}
 use Rattle.queue_steps.specs.declared.attempts.Popped.{Popped}
 use Rattle.queue_steps.specs.declared.attempts.Completed.{Completed}
 use Rattle.queue_steps.specs.Attempts.{popped, completed}
-use Rattle.bench_lent.specs.declared.turns.TurnAnswer.{TurnAnswer}
-use Rattle.bench_lent.specs.Turned.{turned}
+use Rattle.lent_steps.specs.declared.turns.TurnAnswer.{TurnAnswer}
+use Rattle.lent_steps.specs.Turned.{turned}
 use Rattle.queue_record.proofs.record.Queue as Q
 use Rattle.queue_record.proofs.record.Queue.Laws as Q′
 use Rattle.queue_record.proofs.record.Ticket as T
@@ -51,8 +51,8 @@ use Rattle.queue_steps.proofs.attempts.Popped as P
 use Rattle.queue_steps.proofs.attempts.Popped.Laws as P′
 use Rattle.queue_steps.proofs.attempts.Completed as D
 use Rattle.queue_steps.proofs.attempts.Completed.Laws as D′
-use Rattle.bench_lent.proofs.turns.TurnAnswer as R
-use Rattle.bench_lent.proofs.turns.TurnAnswer.Laws as R′
+use Rattle.lent_steps.proofs.turns.TurnAnswer as R
+use Rattle.lent_steps.proofs.turns.TurnAnswer.Laws as R′
 use Rattle.queue_lent.proofs.Lending.{qv, IsQueue, queue-typed, tv, IsTicket, passed, lends-queue, returned, meets}
 use Rattle.queue_lent.proofs.Callers.{PopSays, Pops, to-pop, asks-pop, CompleteSays, Completes, to-complete, asks-complete}
 use Rattle.queue_lent.proofs.pop_lent.Symbol as pop-def
@@ -61,10 +61,10 @@ use Rattle.queue_lent.proofs.pop_lent.Met as pop-thm
 use Rattle.queue_lent.proofs.complete_lent.Symbol as complete-def
 use Rattle.queue_lent.proofs.complete_lent.Symbol.{name as #complete}
 use Rattle.queue_lent.proofs.complete_lent.Met as complete-thm
-use Rattle.bench_lent.proofs.turns.turn.Key.{name as #f}
-use Rattle.bench_lent.proofs.turns.turn as f
-use Rattle.bench_lent.proofs.turns.turn.Statement as stated
-use Rattle.bench_lent.proofs.turns.turn.Code as code
+use Rattle.lent_steps.proofs.turns.turn.Key.{name as #f}
+use Rattle.lent_steps.proofs.turns.turn as f
+use Rattle.lent_steps.proofs.turns.turn.Statement as stated
+use Rattle.lent_steps.proofs.turns.turn.Code as code
 
 abbrev stayed : Stays (f.ended .signature .params) (f.ended .kept)
 stayed = (stay-none (λ _. Q.the-row) yes, (stay-none (λ _. T.the-row) yes, (stay-none (λ _. u64) yes, (stay-none (λ _. u64) yes, tt))))

@@ -3,7 +3,7 @@ use Prim.Native.Nat.{ℕ}
 use Rattle.queue_record.specs.declared.record.Queue.{Queue}
 use Rattle.queue_record.specs.declared.record.Ticket.{Ticket}
 use Rattle.queue_steps.specs.Attempts.{popped, completed}
-use Rattle.bench_lent.specs.declared.turns.TurnAnswer.{TurnAnswer}
+use Rattle.lent_steps.specs.declared.turns.TurnAnswer.{TurnAnswer}
 
 -- the answer of complete is on the record that pop left, and so is the record at the end
 abbrev pub turned : Queue → Ticket → ℕ → ℕ → TurnAnswer
