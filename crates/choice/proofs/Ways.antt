@@ -50,3 +50,8 @@ pub same-truth : (a b : Bool) → (a ≡ true → b ≡ true) → (b ≡ true �
 same-truth true b f g = sym (f refl)
 same-truth false true f g = g refl
 same-truth false false f g = refl
+
+-- a function of what a test chooses
+pub through : {A B : Type 0} (f : A → B) (b : Bool) (x y : A) {z : B} → (b ≡ false → f y ≡ z) → f (if b then x else y) ≡ (if b then f x else z)
+through f true x y h = refl
+through f false x y h = h refl

@@ -1,14 +1,15 @@
--- Register and land: document 01, "Steps", refusals in the order of "Numbers of refusal"
+-- Register and land: document 01, "Steps"; what refuses them is decided in queue_decisions
 use Prim.Native.Nat.{ℕ, _+_}
 use mathlib.Core.Bool.{not}
-use lib.Dec.{eqb, leb}
+use lib.Dec.{eqb}
 use Rattle.choice.specs.Choice.{if_then_else_}
-use Rattle.stage.specs.Phases.{next, isPending}
+use Rattle.stage.specs.Phases.{next}
 use Rattle.stage.specs.declared.phases.Event.the-variants.{Land}
-use Rattle.queue_record.specs.Refusals.{broken, badNumber, noSlot, notPending}
+use Rattle.queue_record.specs.Refusals.{broken}
 use Rattle.queue_record.specs.Record.{withSlot, withCount, withPhase}
 use Rattle.queue_record.specs.WellFormed.{wellFormed}
 use Rattle.queue_record.specs.declared.record.Queue.{Queue}
+use Rattle.queue_decisions.specs.Births.{registerRefusal, landRefusal}
 use Rattle.queue_births.specs.declared.births.Registered.the-variants.{Token, Refused}
 use Rattle.queue_births.specs.declared.births.RegisterAnswer.{RegisterAnswer}
 
@@ -24,19 +25,22 @@ grown q number = withCount (withSlot q (q .count) number) (q .count + 1)
 abbrev pub born : Queue → Queue → RegisterAnswer
 born q after = record { answer = Token (q .count); queue = after }
 
+-- born into the record after it, or refused with the number given
+abbrev pub bornBy : Queue → ℕ → Queue → ℕ → RegisterAnswer
+bornBy q number after refusal = if eqb refusal 0 then born q after else refusedBirth q refusal number
+
 -- register: appends the undo number; answers its token. Order 1, 2, 3
 unfoldable pub registered : Queue → ℕ → RegisterAnswer
 registered q number =
     if not (wellFormed q) then refusedBirth q broken number else
-    if eqb number 0 then refusedBirth q badNumber number else
-    if leb 64 (q .count) then refusedBirth q noSlot number else
-    born q (grown q number)
+    bornBy q number (grown q number) (registerRefusal number (q .count))
+
+-- as grown, and the stage moves
+abbrev pub landedTo : Queue → ℕ → Queue
+landedTo q number = withPhase (grown q number) (next (q .phase) Land)
 
 -- land: as register, and moves the stage. Order 1, 2, 4, 3
 unfoldable pub landed : Queue → ℕ → RegisterAnswer
 landed q number =
     if not (wellFormed q) then refusedBirth q broken number else
-    if eqb number 0 then refusedBirth q badNumber number else
-    if not (isPending (q .phase)) then refusedBirth q notPending number else
-    if leb 64 (q .count) then refusedBirth q noSlot number else
-    born q (withPhase (grown q number) (next (q .phase) Land))
+    bornBy q number (landedTo q number) (landRefusal number (q .phase) (q .count))

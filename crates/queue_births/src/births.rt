@@ -1,10 +1,9 @@
 // Register and land: the calls that append an undo number.
+use queue_decisions::land_refusal;
+use queue_decisions::register_refusal;
 use queue_record::Queue;
 use queue_record::move_to;
-use queue_record::refusal::BAD_NUMBER;
 use queue_record::refusal::BROKEN;
-use queue_record::refusal::NO_SLOT;
-use queue_record::refusal::NOT_PENDING;
 use queue_record::well_formed;
 use stage::Event;
 ghost use mathlib.Core.Path.{_≡_};
@@ -50,11 +49,9 @@ pub fn register(q: Queue, number: u64) -> RegisterAnswer
     if !well_formed(q) {
         return refused(q, BROKEN, number);
     }
-    if number == 0 {
-        return refused(q, BAD_NUMBER, number);
-    }
-    if 64 <= q.count {
-        return refused(q, NO_SLOT, number);
+    let refusal = register_refusal(number, q.count);
+    if refusal != 0 {
+        return refused(q, refusal, number);
     }
     let token = q.count;
     let after = grow(q, number);
@@ -71,15 +68,10 @@ pub fn land(q: Queue, number: u64) -> RegisterAnswer
     if !well_formed(q) {
         return refused(q, BROKEN, number);
     }
-    if number == 0 {
-        return refused(q, BAD_NUMBER, number);
-    }
     let phase = q.phase;
-    if !stage::pending(phase) {
-        return refused(q, NOT_PENDING, number);
-    }
-    if 64 <= q.count {
-        return refused(q, NO_SLOT, number);
+    let refusal = land_refusal(number, phase, q.count);
+    if refusal != 0 {
+        return refused(q, refusal, number);
     }
     let token = q.count;
     let born = grow(q, number);

@@ -8,8 +8,5 @@ pub use attempts::Popped;
 pub use attempts::Retried;
 pub use attempts::RetryAnswer;
 pub use attempts::complete;
-pub use attempts::is_out;
-pub use attempts::keeps_on_done;
-pub use attempts::may_retry;
 pub use attempts::pop;
 pub use attempts::retry;

@@ -1,13 +1,27 @@
--- A return for each refusal, and the birth with the stage moved
-use mathlib.Core.Path.{sym, ap, _∙_}
-use borrow.Author.Tests.{eq-eqb, ne-eqb, le-leb, lt-leb}
+-- Refused, or born with the stage moved
+use Prim.Native.Nat.{_<_}
+use mathlib.Core.Path.{_≡_, sym, ap, _∙_}
+use borrow.Author.Tests.{eq-eqb, ne-eqb}
 use Rattle.choice.proofs.Ways.{hit, miss, negated}
 use Rattle.queue_record.specs.Record.{withPhase}
 use Rattle.queue_record.specs.declared.record.Queue.{Queue}
-use Rattle.queue_births.specs.Births.{born, grown, landed}
+use Rattle.queue_decisions.proofs.BirthLaws.{land-room}
+use Rattle.queue_births.specs.Births.{born, grown, bornBy, landedTo, landed}
 use borrow.Author.Needs.{needs}
 use Rattle.queue_births.proofs.births.land.Statement.{statement}
 use Rattle.queue_births.proofs.births.land.Tie as tie
+
+-- behind the decision: the record that is asked, and the call by the decided number
+abbrev asked : tie.After-land-refusal → Queue
+asked c = (c .before .before .before .args .q)
+
+decided : (c : tie.After-land-refusal) → landed (asked c) (c .before .before .before .args .number) ≡ bornBy (asked c) (c .before .before .before .args .number) (landedTo (asked c) (c .before .before .before .args .number)) (c .land-refusal .result)
+unfolding landed
+decided c = miss _ (negated (c .before .before .well-formed .ensures) (c .before .if1 .left)) ∙ ap (bornBy (asked c) (c .before .before .before .args .number) (landedTo (asked c) (c .before .before .before .args .number))) (sym (c .land-refusal .ensures))
+
+-- behind the stores
+stored : (c : tie.After-move-to) → (c .move-to .result) ≡ landedTo (asked (c .before .before .before .before)) ((c .before .before .before .before) .before .before .before .args .number)
+stored c = (c .move-to .ensures) ∙ (ap (λ (b : Queue). withPhase b (c .before .next-phase .result)) (c .before .before .grow .ensures) ∙ ap (withPhase (grown (asked (c .before .before .before .before)) ((c .before .before .before .before) .before .before .before .args .number))) (c .before .next-phase .ensures))
 
 pub land-spec : {M : Type 1} → statement M
 unfolding landed
@@ -18,15 +32,9 @@ land-spec =
     (λ c κs. search needs)
     (λ c. (c .refused .ensures) ∙ sym (hit _ (negated (c .before .before .well-formed .ensures) (c .before .if1 .taken))))
     (λ c κs. search needs)
-    (λ c. (c .refused2 .ensures) ∙ sym (miss _ (negated (c .before .before .before .well-formed .ensures) (c .before .before .if1 .left)) ∙ hit _ (eq-eqb _ _ (c .before .if2 .taken))))
+    (λ c κs. search needs)
+    (λ c. (c .refused2 .ensures) ∙ sym (decided (c .before .before) ∙ miss _ (ne-eqb _ _ (c .before .if2 .taken))))
+    (λ c κs. land-room _ _ _ (sym (c .before .land-refusal .ensures) ∙ (c .if2 .left)))
     (λ c κs. search needs)
     (λ c κs. search needs)
-    (λ c. (c .refused3 .ensures) ∙ sym (miss _ (negated (c .before .before .before .before .before .well-formed .ensures) (c .before .before .before .before .if1 .left)) ∙ (miss _ (ne-eqb _ _ (c .before .before .before .if2 .left)) ∙ hit _ (negated (c .before .before .pending .ensures) (c .before .if3 .taken)))))
-    (λ c κs. search needs)
-    (λ c. (c .refused4 .ensures) ∙ sym (miss _ (negated (c .before .before .before .before .before .before .before .well-formed .ensures) (c .before .before .before .before .before .before .if1 .left)) ∙ (miss _ (ne-eqb _ _ (c .before .before .before .before .before .if2 .left)) ∙ (miss _ (negated (c .before .before .before .before .pending .ensures) (c .before .before .before .if3 .left)) ∙ hit _ (le-leb _ _ (c .before .if4 .taken))))))
-    (λ c κs. search needs)
-    (λ c κs. search needs)
-    (λ c κs. search needs)
-    (λ c.
-    let a = c .before .before .before .before .before .before .before .before .before .before .args in
-    ap (born (a .q)) ((c .move-to .ensures) ∙ (ap (λ (b : Queue). withPhase b (c .before .next-phase .result)) (c .before .before .grow .ensures) ∙ ap (withPhase (grown (a .q) (a .number))) (c .before .next-phase .ensures))) ∙ sym (miss _ (negated (c .before .before .before .before .before .before .before .before .before .well-formed .ensures) (c .before .before .before .before .before .before .before .before .if1 .left)) ∙ (miss _ (ne-eqb _ _ (c .before .before .before .before .before .before .before .if2 .left)) ∙ (miss _ (negated (c .before .before .before .before .before .before .pending .ensures) (c .before .before .before .before .before .if3 .left)) ∙ miss _ (lt-leb _ _ (c .before .before .before .if4 .left)))))))
+    (λ c. ap (born (asked (c .before .before .before .before))) (stored c) ∙ sym (decided (c .before .before .before .before) ∙ hit _ (eq-eqb _ _ (c .before .before .before .if2 .left)))))

@@ -1,11 +1,23 @@
--- A return for each refusal, and the birth
-use mathlib.Core.Path.{sym, ap, _∙_}
-use borrow.Author.Tests.{eq-eqb, ne-eqb, le-leb, lt-leb}
+-- Refused, or born
+use Prim.Native.Nat.{_<_}
+use mathlib.Core.Path.{_≡_, sym, ap, _∙_}
+use mathlib.Core.Bool.{true, not}
+use borrow.Author.Tests.{eq-eqb, ne-eqb, not-false}
 use Rattle.choice.proofs.Ways.{hit, miss, negated}
-use Rattle.queue_births.specs.Births.{born, registered}
+use Rattle.queue_record.specs.declared.record.Queue.{Queue}
+use Rattle.queue_decisions.proofs.BirthLaws.{register-room}
+use Rattle.queue_births.specs.Births.{born, grown, bornBy, registered}
 use borrow.Author.Needs.{needs}
 use Rattle.queue_births.proofs.births.register.Statement.{statement}
 use Rattle.queue_births.proofs.births.register.Tie as tie
+
+-- behind the decision: the record that is asked, and the call by the decided number
+abbrev asked : tie.After-register-refusal → Queue
+asked c = (c .before .before .before .args .q)
+
+decided : (c : tie.After-register-refusal) → registered (asked c) (c .before .before .before .args .number) ≡ bornBy (asked c) (c .before .before .before .args .number) (grown (asked c) (c .before .before .before .args .number)) (c .register-refusal .result)
+unfolding registered
+decided c = miss _ (negated (c .before .before .well-formed .ensures) (c .before .if1 .left)) ∙ ap (bornBy (asked c) (c .before .before .before .args .number) (grown (asked c) (c .before .before .before .args .number))) (sym (c .register-refusal .ensures))
 
 pub register-spec : {M : Type 1} → statement M
 unfolding registered
@@ -16,8 +28,7 @@ register-spec =
     (λ c κs. search needs)
     (λ c. (c .refused .ensures) ∙ sym (hit _ (negated (c .before .before .well-formed .ensures) (c .before .if1 .taken))))
     (λ c κs. search needs)
-    (λ c. (c .refused2 .ensures) ∙ sym (miss _ (negated (c .before .before .before .well-formed .ensures) (c .before .before .if1 .left)) ∙ hit _ (eq-eqb _ _ (c .before .if2 .taken))))
     (λ c κs. search needs)
-    (λ c. (c .refused3 .ensures) ∙ sym (miss _ (negated (c .before .before .before .before .before .well-formed .ensures) (c .before .before .before .before .if1 .left)) ∙ (miss _ (ne-eqb _ _ (c .before .before .before .if2 .left)) ∙ hit _ (le-leb _ _ (c .before .if3 .taken)))))
-    (λ c κs. search needs)
-    (λ c. ap (born (c .before .before .before .before .before .before .args .q)) (c .grow .ensures) ∙ sym (miss _ (negated (c .before .before .before .before .before .well-formed .ensures) (c .before .before .before .before .if1 .left)) ∙ (miss _ (ne-eqb _ _ (c .before .before .before .if2 .left)) ∙ miss _ (lt-leb _ _ (c .before .if3 .left))))))
+    (λ c. (c .refused2 .ensures) ∙ sym (decided (c .before .before) ∙ miss _ (ne-eqb _ _ (c .before .if2 .taken))))
+    (λ c κs. register-room _ _ (sym (c .before .register-refusal .ensures) ∙ (c .if2 .left)))
+    (λ c. ap (born (asked (c .before .before))) (c .grow .ensures) ∙ sym (decided (c .before .before) ∙ hit _ (eq-eqb _ _ (c .before .if2 .left)))))

@@ -3,8 +3,8 @@ use mathlib.Core.Path.{sym, ap, _∙_}
 use mathlib.Core.Bool.{not}
 use borrow.Author.Tests.{eq-eqb, ne-eqb, not-true, not-false}
 use Rattle.choice.proofs.Ways.{pass, stop}
-use Rattle.queue_steps.proofs.attempts.may_retry.Statement.{statement}
-use Rattle.queue_steps.proofs.attempts.may_retry.Tie as tie
+use Rattle.queue_decisions.proofs.renewals.may_retry.Statement.{statement}
+use Rattle.queue_decisions.proofs.renewals.may_retry.Tie as tie
 
 pub may-retry-spec : {M : Type 1} → statement M
 may-retry-spec =

@@ -2,8 +2,8 @@
 use mathlib.Core.Path.{sym, _∙_}
 use borrow.Author.Tests.{eq-eqb, ne-eqb}
 use Rattle.choice.proofs.Ways.{pass, stop}
-use Rattle.queue_steps.proofs.attempts.same_ticket.Statement.{statement}
-use Rattle.queue_steps.proofs.attempts.same_ticket.Tie as tie
+use Rattle.queue_decisions.proofs.answers.same_ticket.Statement.{statement}
+use Rattle.queue_decisions.proofs.answers.same_ticket.Tie as tie
 
 pub same-ticket-spec : {M : Type 1} → statement M
 same-ticket-spec =

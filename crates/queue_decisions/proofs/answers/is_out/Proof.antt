@@ -2,11 +2,11 @@
 use mathlib.Core.Path.{sym, ap, _∙_}
 use borrow.Author.Tests.{not-true, not-false}
 use Rattle.choice.proofs.Ways.{pass, stop}
-use Rattle.queue_steps.specs.Attempts.{selects}
+use Rattle.queue_decisions.specs.Answers.{selects}
 use Rattle.queue_record.specs.declared.record.Selection.{Selection}
 use borrow.Author.Needs.{needs}
-use Rattle.queue_steps.proofs.attempts.is_out.Statement.{statement}
-use Rattle.queue_steps.proofs.attempts.is_out.Tie as tie
+use Rattle.queue_decisions.proofs.answers.is_out.Statement.{statement}
+use Rattle.queue_decisions.proofs.answers.is_out.Tie as tie
 
 pub is-out-spec : {M : Type 1} → statement M
 is-out-spec =

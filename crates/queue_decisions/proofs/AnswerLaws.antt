@@ -1,17 +1,15 @@
--- The ticket that is out is the selected one; a retry that is allowed has an attempt left
-use Prim.Native.Nat.{ℕ, _<_}
+-- Where nothing refuses an answer, its ticket is the selected one, and is out
+use Prim.Native.Nat.{ℕ, _≤_}
 use mathlib.Core.Path.{_≡_, refl, ap, _∙_}
-use mathlib.Core.Bool.{Bool, true, not, _&&_}
-use borrow.Author.Tests.{eq-eqb, eqb-true, ltb-true}
+use mathlib.Core.Bool.{Bool, true, false, not, _&&_}
+use native.Mathlib.Omega.{arith}
+use borrow.Author.Tests.{eq-eqb, eqb-true, ltb-false, not-false}
 use lib.Dec.{eqb, ltb}
-use Rattle.choice.proofs.Ways.{pass, and-left, and-right, clash}
-use Rattle.queue_record.specs.WellFormed.{wellFormed}
+use Rattle.choice.proofs.Ways.{pass, and-left, and-right, clash, if-by}
 use Rattle.queue_record.specs.declared.record.Ticket.{Ticket}
 use Rattle.queue_record.specs.declared.record.Selection.{Selection}
 use Rattle.queue_record.specs.declared.record.Selection.the-variants.{Free, Of}
-use Rattle.queue_record.specs.declared.record.Queue.{Queue}
-use Rattle.queue_record.proofs.Fit.{selected-below}
-use Rattle.queue_steps.specs.Attempts.{noMore, sameTicket, selects, isOut, mayRetry}
+use Rattle.queue_decisions.specs.Answers.{sameTicket, selects, isOut, keepsOnDone, completeRefusal}
 
 abbrev made : ℕ → ℕ → ℕ → Ticket
 made x y z = record { domain = x; token = y; attempt = z }
@@ -33,17 +31,27 @@ selects-one : (s : Selection) (t : Ticket) → selects s t ≡ true → s ≡ Of
 selects-one Free t h = clash h refl
 selects-one (Of s) t h = ap Of (same-one s t h)
 
-module _ (issued : Bool) (s : Selection) (t : Ticket) (h : isOut issued s t ≡ true) where
-  pub out-issued : issued ≡ true
-  out-issued = and-left issued (selects s t) h
+module _ (issued : Bool) (s : Selection) (t : Ticket) where
+  module _ (h : isOut issued s t ≡ true) where
+    pub out-issued : issued ≡ true
+    out-issued = and-left issued (selects s t) h
 
-  pub out-selected : s ≡ Of t
-  out-selected = selects-one s t (and-right issued (selects s t) h)
+    pub out-selected : s ≡ Of t
+    out-selected = selects-one s t (and-right issued (selects s t) h)
 
--- a ticket that is out names one of the 64 slots
-pub out-below : (q : Queue) (t : Ticket) → wellFormed q ≡ true → isOut (q .issued) (q .selection) t ≡ true → t .token < 64
-out-below q t h o = selected-below q t h (out-selected (q .issued) (q .selection) t o)
+  -- what an answer is that nothing refuses
+  pub record Answers (outcome kept : ℕ) : Type 0 where
+    pub known : outcome ≤ 1
+    pub out : isOut issued s t ≡ true
+    pub keeps : keepsOnDone outcome kept ≡ false
 
--- ---- retry
-pub retry-room : (failed : Bool) (number next : ℕ) → mayRetry failed number next ≡ true → next < 18446744073709551615
-retry-room failed number next h = ltb-true _ _ (and-right (not (eqb number 0)) (ltb next noMore) (and-right failed (not (eqb number 0) && ltb next noMore) h))
+  module _ (outcome kept : ℕ) where
+    abbrev Fine : ℕ → Type 0
+    Fine n = n ≡ 0 → Answers outcome kept
+
+    pub complete-fine : Fine (completeRefusal issued s t outcome kept)
+    unfolding completeRefusal
+    complete-fine =
+        if-by Fine (ltb 1 outcome) _ _ (λ _ z. absurd (omega arith))
+        (λ o. if-by Fine (not (isOut issued s t)) _ _ (λ _ z. absurd (omega arith))
+        (λ u. if-by Fine (keepsOnDone outcome kept) _ _ (λ _ z. absurd (omega arith)) (λ k _. record { known = ltb-false _ _ o; out = not-false _ u; keeps = k })))

@@ -2,8 +2,8 @@
 use mathlib.Core.Path.{sym}
 use borrow.Author.Tests.{eq-eqb, ne-eqb}
 use Rattle.choice.proofs.Ways.{pass, stop}
-use Rattle.queue_steps.proofs.attempts.keeps_on_done.Statement.{statement}
-use Rattle.queue_steps.proofs.attempts.keeps_on_done.Tie as tie
+use Rattle.queue_decisions.proofs.answers.keeps_on_done.Statement.{statement}
+use Rattle.queue_decisions.proofs.answers.keeps_on_done.Tie as tie
 
 pub keeps-on-done-spec : {M : Type 1} → statement M
 keeps-on-done-spec =

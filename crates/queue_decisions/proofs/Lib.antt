@@ -1,0 +1,4 @@
+pub mod BirthLaws
+pub mod PopLaws
+pub mod AnswerLaws
+pub mod RenewalLaws

@@ -1,0 +1,45 @@
+-- What is due names one of the slots
+use Prim.Native.Nat.{ℕ, _+_, _<_}
+use mathlib.Core.Path.{_≡_, refl, ap}
+use mathlib.Core.Bool.{Bool}
+use mathlib.Core.List.{List}
+use native.Mathlib.Omega.{arith}
+use lib.Dec.{eqb, leb}
+use lib.ListN.{length}
+use Rattle.choice.proofs.Ways.{if-by}
+use Rattle.queue_record.specs.Waiting.{occupied}
+use Rattle.queue_record.specs.Newest.{newest}
+use Rattle.queue_record.specs.declared.record.Ticket.{Ticket}
+use Rattle.queue_record.specs.declared.record.Selection.{Selection}
+use Rattle.queue_record.specs.declared.record.Selection.the-variants.{Free, Of}
+use Rattle.queue_record.specs.declared.search.Found.{Found}
+use Rattle.queue_record.specs.declared.search.Found.the-variants.{At, Missing}
+use Rattle.queue_record.proofs.Last.{newest-below}
+use Rattle.queue_decisions.specs.Slots.{noMore, slotIn}
+use Rattle.queue_decisions.specs.Pops.{sought, freshTicket, freshDue, dueBy, popDue}
+use Rattle.queue_decisions.specs.declared.pops.Due.{Due}
+
+module _ (slots : List ℕ) (domain next : ℕ) (t : Ticket) (number coming : ℕ) where
+  abbrev Below : Due → Type 0
+  Below d = d ≡ Due.Of t number coming → t .token < length slots
+
+  not-due : {d : Due} → (d ≡ Due.Of t number coming → _≡_ {A = ℕ} 0 1) → Below d
+  not-due f e = let z : _≡_ {A = ℕ} 0 1 = f e in absurd (omega arith)
+
+  own-below : (s : Ticket) → s .token < length slots → (m k : ℕ) → Below (Due.Of s m k)
+  own-below s h m k e = let p : s ≡ t = cc in let j : s .token ≡ t .token = ap (λ (x : Ticket). x .token) p in omega arith
+
+  fresh-below : (f : Found) → newest (occupied 0 slots) ≡ f → Below (freshDue f slots domain next)
+  fresh-below Missing m = not-due (λ e. cc)
+  fresh-below (At k) m =
+      if-by Below (eqb (slotIn slots k) 0) _ _ (λ _. not-due (λ e. cc))
+      (λ _. if-by Below (leb noMore next) _ _ (λ _. not-due (λ e. cc)) (λ _. own-below (freshTicket domain k next) (newest-below slots k m) (slotIn slots k) (next + 1)))
+
+  module _ (selection : Selection) (own : (s : Ticket) → selection ≡ Of s → s .token < length slots) where
+    chosen-below : (s : Selection) → selection ≡ s → Below (dueBy (sought s slots) slots domain next s)
+    chosen-below Free e = fresh-below (newest (occupied 0 slots)) refl
+    chosen-below (Of s) e = if-by Below (eqb (slotIn slots (s .token)) 0) _ _ (λ _. not-due (λ e. cc)) (λ _. own-below s (own s e) (slotIn slots (s .token)) next)
+
+    pub due-below : (issued failed : Bool) → Below (popDue issued failed selection (sought selection slots) slots domain next)
+    unfolding popDue
+    due-below issued failed = if-by Below issued _ _ (λ _. not-due (λ e. cc)) (λ _. if-by Below failed _ _ (λ _. not-due (λ e. cc)) (λ _. chosen-below selection refl))

@@ -1,0 +1,5 @@
+pub mod Slots
+pub mod Births
+pub mod Pops
+pub mod Answers
+pub mod Renewals

@@ -1,0 +1,33 @@
+-- Whether the selected ticket may be retried, and the ticket renewed: document 01, "Steps"
+use Prim.Native.Nat.{ℕ}
+use mathlib.Core.Bool.{Bool, false, not, _&&_}
+use mathlib.Core.List.{List}
+use lib.Dec.{eqb, ltb}
+use Rattle.choice.specs.Choice.{if_then_else_}
+use Rattle.queue_record.specs.Refusals.{noRetry}
+use Rattle.queue_record.specs.declared.record.Ticket.{Ticket}
+use Rattle.queue_record.specs.declared.record.Selection.{Selection}
+use Rattle.queue_record.specs.declared.record.Selection.the-variants.{Free, Of}
+use Rattle.queue_decisions.specs.Slots.{noMore, slotIn}
+use Rattle.queue_decisions.specs.declared.renewals.Renewal.{Renewal}
+
+-- allowed if failed, the slot is occupied and next is below 18446744073709551615
+abbrev pub mayRetry : Bool → ℕ → ℕ → Bool
+mayRetry failed number next = failed && (not (eqb number 0) && ltb next noMore)
+
+-- the same, of what is selected
+abbrev pub retryAllowed : Bool → List ℕ → ℕ → Selection → Bool
+retryAllowed failed slots next Free = false
+retryAllowed failed slots next (Of t) = mayRetry failed (slotIn slots (t .token)) next
+
+-- the ticket takes next
+abbrev pub renewed : Ticket → ℕ → Ticket
+renewed t next = record { domain = t .domain; token = t .token; attempt = next }
+
+-- retry, of what is selected: 8
+abbrev pub dueAgain : Bool → List ℕ → ℕ → Selection → Renewal
+dueAgain failed slots next Free = Renewal.Refused noRetry
+dueAgain failed slots next (Of t) = if not (retryAllowed failed slots next (Of t)) then Renewal.Refused noRetry else Renewal.Of (renewed t next)
+
+unfoldable pub retryDue : Bool → Selection → List ℕ → ℕ → Renewal
+retryDue failed selection slots next = dueAgain failed slots next selection

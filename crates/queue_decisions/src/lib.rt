@@ -1,0 +1,18 @@
+// What each step decides, over the fields that it looks at: the refusal of a birth, the ticket that is due, the refusal of an answer,
+// the ticket renewed. The calls by value, on words, recorded and replayed ask here; only their stores differ.
+mod answers;
+mod births;
+mod pops;
+mod renewals;
+mod slots;
+
+pub use answers::complete_refusal;
+pub use births::land_refusal;
+pub use births::register_refusal;
+pub use pops::Due;
+pub use pops::pop_due;
+pub use pops::seek;
+pub use renewals::Renewal;
+pub use renewals::may_retry;
+pub use renewals::retry_due;
+pub use slots::slot_at;

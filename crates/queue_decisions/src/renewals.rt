@@ -1,0 +1,42 @@
+// Whether the selected ticket may be retried, and the ticket renewed.
+use crate::slots::NO_MORE;
+use crate::slots::slot_at;
+use queue_record::Selection;
+use queue_record::Ticket;
+use queue_record::refusal::NO_RETRY;
+ghost use mathlib.Core.Path.{_≡_};
+ghost use Rattle.queue_decisions.specs.Renewals.{mayRetry, retryDue};
+
+pub enum Renewal {
+    Of(Ticket),
+    Refused(u64),
+}
+
+// Failed, the slot occupied, and an attempt number left.
+pub fn may_retry(failed: bool, number: u64, next: u64) -> bool
+    ensures { λ r. ⌜ r ≡ mayRetry failed number next ⌝ }
+{
+    if !failed {
+        return false;
+    }
+    if number == 0 {
+        return false;
+    }
+    next < NO_MORE
+}
+
+pub fn retry_due(failed: bool, selection: Selection, slots: &[u64], next: u64) -> Renewal
+    ensures { λ r. ⌜ r ≡ retryDue failed selection (now (slots .entry)) next ⌝ }
+{
+    let Selection::Of(old) = selection else {
+        return Renewal::Refused(NO_RETRY);
+    };
+    if !may_retry(failed, slot_at(slots, old.token), next) {
+        return Renewal::Refused(NO_RETRY);
+    }
+    Renewal::Of(Ticket {
+        domain: old.domain,
+        token: old.token,
+        attempt: next,
+    })
+}
