@@ -1,5 +1,6 @@
 // Pop, complete and retry: an undo number goes out, is answered, and may go out again.
 use queue_record::refusal::BROKEN;
+use queue_words::layout::*;
 use queue_words::sound;
 use word_steps::complete_in;
 use word_steps::pop_in;
@@ -8,7 +9,7 @@ ghost use mathlib.Core.Path.{_≡_};
 ghost use Rattle.queue_words.specs.Exported.{exported, popOn, completeOn, retryOn};
 
 #[no_mangle]
-pub extern "C" fn gulberzan_pop(queue: &mut [u64; 92], answer: &mut [u64; 5]) -> u64
+pub extern "C" fn gulberzan_pop(queue: &mut Words, answer: &mut Answer) -> u64
     ensures { λ r. ⌜ exported r (now (answer .exit)) (now (queue .exit)) ≡ popOn (now (queue .entry)) ⌝ }
 {
     if !sound(queue) {
@@ -20,11 +21,11 @@ pub extern "C" fn gulberzan_pop(queue: &mut [u64; 92], answer: &mut [u64; 5]) ->
 
 #[no_mangle]
 pub extern "C" fn gulberzan_complete(
-    queue: &mut [u64; 92],
-    ticket: &[u64; 3],
+    queue: &mut Words,
+    ticket: &TicketWords,
     outcome: u64,
     kept: u64,
-    answer: &mut [u64; 5],
+    answer: &mut Answer,
 ) -> u64
     ensures { λ r. ⌜ exported r (now (answer .exit)) (now (queue .exit)) ≡ completeOn (now (queue .entry)) (now (ticket .entry)) outcome kept ⌝ }
 {
@@ -36,7 +37,7 @@ pub extern "C" fn gulberzan_complete(
 }
 
 #[no_mangle]
-pub extern "C" fn gulberzan_retry(queue: &mut [u64; 92], answer: &mut [u64; 5]) -> u64
+pub extern "C" fn gulberzan_retry(queue: &mut Words, answer: &mut Answer) -> u64
     ensures { λ r. ⌜ exported r (now (answer .exit)) (now (queue .exit)) ≡ retryOn (now (queue .entry)) ⌝ }
 {
     if !sound(queue) {

@@ -1,4 +1,4 @@
-// The public calls of a queue for C: the queue is 92 words that the caller lends, checked on the way in and changed in place.
+// The public calls of a queue for C: the queue is words that the caller lends, checked on the way in and changed in place.
 mod attempts;
 mod births;
 mod keeping;

@@ -1,4 +1,5 @@
-// The openings: a scope, and an iterator with its committed bindings. All 92 words are written.
+// The openings: a scope, and an iterator with its committed bindings. Every word is written.
+use queue_words::layout::*;
 use queue_words::put_scope;
 use word_steps::open_iterator;
 ghost use mathlib.Core.Path.{_≡_};
@@ -8,7 +9,7 @@ ghost use Rattle.queue_words.specs.Words.{wordsOf};
 ghost use Rattle.queue_words.specs.Exported.{openNumber};
 
 #[no_mangle]
-pub extern "C" fn gulberzan_open_scope(queue: &mut [u64; 92], domain: u64, first: u64) -> u64
+pub extern "C" fn gulberzan_open_scope(queue: &mut Words, domain: u64, first: u64) -> u64
     ensures { λ r. ⌜ (r ≡ done) × (now (queue .exit) ≡ wordsOf (scopeOf domain first)) ⌝ }
 {
     put_scope(queue, domain, first);
@@ -17,7 +18,7 @@ pub extern "C" fn gulberzan_open_scope(queue: &mut [u64; 92], domain: u64, first
 
 #[no_mangle]
 pub extern "C" fn gulberzan_open_iterator(
-    queue: &mut [u64; 92],
+    queue: &mut Words,
     domain: u64,
     first: u64,
     bindings: &[u64],

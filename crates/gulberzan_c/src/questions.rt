@@ -1,6 +1,7 @@
 // The calls that ask and change nothing.
 use queue_record::refusal::BROKEN;
 use queue_words::finish_allowed;
+use queue_words::layout::*;
 use queue_words::nothing_left;
 use queue_words::retry_allowed;
 use queue_words::sound;
@@ -11,7 +12,7 @@ ghost use Rattle.queue_words.specs.Exported.{exported, isEmptyOn, isIssuedOn, i
 ghost use Rattle.queue_words.specs.InPlace.{soundNumber};
 
 #[no_mangle]
-pub extern "C" fn gulberzan_is_empty(queue: &[u64; 92], answer: &mut [u64; 5]) -> u64
+pub extern "C" fn gulberzan_is_empty(queue: &Words, answer: &mut Answer) -> u64
     ensures { λ r. ⌜ exported r (now (answer .exit)) (now (queue .entry)) ≡ isEmptyOn (now (queue .entry)) ⌝ }
 {
     if !sound(queue) {
@@ -23,19 +24,19 @@ pub extern "C" fn gulberzan_is_empty(queue: &[u64; 92], answer: &mut [u64; 5]) -
 }
 
 #[no_mangle]
-pub extern "C" fn gulberzan_is_issued(queue: &[u64; 92], answer: &mut [u64; 5]) -> u64
+pub extern "C" fn gulberzan_is_issued(queue: &Words, answer: &mut Answer) -> u64
     ensures { λ r. ⌜ exported r (now (answer .exit)) (now (queue .entry)) ≡ isIssuedOn (now (queue .entry)) ⌝ }
 {
     if !sound(queue) {
         *answer = [0, 0, 0, 0, 0];
         return BROKEN;
     }
-    *answer = [yes_word(queue[73] == 1), 0, 0, 0, 0];
+    *answer = [yes_word(queue[ISSUED] == 1), 0, 0, 0, 0];
     0
 }
 
 #[no_mangle]
-pub extern "C" fn gulberzan_is_pending(queue: &[u64; 92], answer: &mut [u64; 5]) -> u64
+pub extern "C" fn gulberzan_is_pending(queue: &Words, answer: &mut Answer) -> u64
     ensures { λ r. ⌜ exported r (now (answer .exit)) (now (queue .entry)) ≡ isPendingOn (now (queue .entry)) ⌝ }
 {
     if !sound(queue) {
@@ -43,7 +44,7 @@ pub extern "C" fn gulberzan_is_pending(queue: &[u64; 92], answer: &mut [u64; 5])
         return BROKEN;
     }
     *answer = [
-        yes_word(stage::pending(stage::phase_at(queue[74]))),
+        yes_word(stage::pending(stage::phase_at(queue[PHASE]))),
         0,
         0,
         0,
@@ -53,7 +54,7 @@ pub extern "C" fn gulberzan_is_pending(queue: &[u64; 92], answer: &mut [u64; 5])
 }
 
 #[no_mangle]
-pub extern "C" fn gulberzan_is_settled(queue: &[u64; 92], answer: &mut [u64; 5]) -> u64
+pub extern "C" fn gulberzan_is_settled(queue: &Words, answer: &mut Answer) -> u64
     ensures { λ r. ⌜ exported r (now (answer .exit)) (now (queue .entry)) ≡ isSettledOn (now (queue .entry)) ⌝ }
 {
     if !sound(queue) {
@@ -61,7 +62,7 @@ pub extern "C" fn gulberzan_is_settled(queue: &[u64; 92], answer: &mut [u64; 5])
         return BROKEN;
     }
     *answer = [
-        yes_word(stage::settled(stage::phase_at(queue[74]))),
+        yes_word(stage::settled(stage::phase_at(queue[PHASE]))),
         0,
         0,
         0,
@@ -71,7 +72,7 @@ pub extern "C" fn gulberzan_is_settled(queue: &[u64; 92], answer: &mut [u64; 5])
 }
 
 #[no_mangle]
-pub extern "C" fn gulberzan_is_cancelled(queue: &[u64; 92], answer: &mut [u64; 5]) -> u64
+pub extern "C" fn gulberzan_is_cancelled(queue: &Words, answer: &mut Answer) -> u64
     ensures { λ r. ⌜ exported r (now (answer .exit)) (now (queue .entry)) ≡ isCancelledOn (now (queue .entry)) ⌝ }
 {
     if !sound(queue) {
@@ -79,7 +80,7 @@ pub extern "C" fn gulberzan_is_cancelled(queue: &[u64; 92], answer: &mut [u64; 5
         return BROKEN;
     }
     *answer = [
-        yes_word(stage::cancelled(stage::phase_at(queue[74]))),
+        yes_word(stage::cancelled(stage::phase_at(queue[PHASE]))),
         0,
         0,
         0,
@@ -89,19 +90,19 @@ pub extern "C" fn gulberzan_is_cancelled(queue: &[u64; 92], answer: &mut [u64; 5
 }
 
 #[no_mangle]
-pub extern "C" fn gulberzan_has_failed(queue: &[u64; 92], answer: &mut [u64; 5]) -> u64
+pub extern "C" fn gulberzan_has_failed(queue: &Words, answer: &mut Answer) -> u64
     ensures { λ r. ⌜ exported r (now (answer .exit)) (now (queue .entry)) ≡ hasFailedOn (now (queue .entry)) ⌝ }
 {
     if !sound(queue) {
         *answer = [0, 0, 0, 0, 0];
         return BROKEN;
     }
-    *answer = [yes_word(queue[72] == 1), 0, 0, 0, 0];
+    *answer = [yes_word(queue[FAILED] == 1), 0, 0, 0, 0];
     0
 }
 
 #[no_mangle]
-pub extern "C" fn gulberzan_can_retry(queue: &[u64; 92], answer: &mut [u64; 5]) -> u64
+pub extern "C" fn gulberzan_can_retry(queue: &Words, answer: &mut Answer) -> u64
     ensures { λ r. ⌜ exported r (now (answer .exit)) (now (queue .entry)) ≡ canRetryOn (now (queue .entry)) ⌝ }
 {
     if !sound(queue) {
@@ -113,11 +114,7 @@ pub extern "C" fn gulberzan_can_retry(queue: &[u64; 92], answer: &mut [u64; 5]) 
 }
 
 #[no_mangle]
-pub extern "C" fn gulberzan_can_finish(
-    queue: &[u64; 92],
-    target: &[u64],
-    answer: &mut [u64; 5],
-) -> u64
+pub extern "C" fn gulberzan_can_finish(queue: &Words, target: &[u64], answer: &mut Answer) -> u64
     ensures { λ r. ⌜ exported r (now (answer .exit)) (now (queue .entry)) ≡ canFinishOn (now (queue .entry)) (now (target .entry)) ⌝ }
 {
     if !sound(queue) {
@@ -129,20 +126,20 @@ pub extern "C" fn gulberzan_can_finish(
 }
 
 #[no_mangle]
-pub extern "C" fn gulberzan_domain(queue: &[u64; 92], answer: &mut [u64; 5]) -> u64
+pub extern "C" fn gulberzan_domain(queue: &Words, answer: &mut Answer) -> u64
     ensures { λ r. ⌜ exported r (now (answer .exit)) (now (queue .entry)) ≡ domainOn (now (queue .entry)) ⌝ }
 {
     if !sound(queue) {
         *answer = [0, 0, 0, 0, 0];
         return BROKEN;
     }
-    *answer = [1, queue[1], 0, 0, 0];
+    *answer = [1, queue[DOMAIN], 0, 0, 0];
     0
 }
 
 // 1 if the words encode a well-formed record, else 0.
 #[no_mangle]
-pub extern "C" fn gulberzan_well_formed(queue: &[u64; 92]) -> u64
+pub extern "C" fn gulberzan_well_formed(queue: &Words) -> u64
     ensures { λ r. ⌜ r ≡ soundNumber (isSound (now (queue .entry))) ⌝ }
 {
     if sound(queue) {

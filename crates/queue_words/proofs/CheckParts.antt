@@ -13,6 +13,7 @@ use Rattle.queue_record.specs.declared.record.Selection.the-variants.{Free, Of}
 use Rattle.queue_record.specs.declared.record.Queue.{Queue}
 use Rattle.queue_record.proofs.Marks.{bothFit}
 use Rattle.queue_record.proofs.Fit.{ticket-below}
+use Rattle.queue_words.specs.Layout.{atDomain, atNext, atSlots, atCount, atSelected, atTicketDomain, atTicketToken, atTicketAttempt, atFailed, atIssued}
 use Rattle.queue_words.specs.Words.{word, markAt, ticketOf, slotsIn, selectionIn, selectionFitsBy, placesFit, selectionFits, queueOf, encodes, isSound}
 
 -- two conjunctions, one behind the other
@@ -30,13 +31,13 @@ two-parts q = sym (
     (sym (and-true (selectedFits (q .failed) (q .issued) (q .slots) (q .selection))))))))
 
 -- a slot is a word
-pub slot-word : (ws : List ℕ) (k : ℕ) → k < 64 → getD (slotsIn ws) k 0 ≡ word ws (3 + k)
-slot-word ws k h = getD-take 64 (drop 3 ws) k 0 h ∙ getD-drop 3 ws k 0
+pub slot-word : (ws : List ℕ) (k : ℕ) → k < 64 → getD (slotsIn ws) k 0 ≡ word ws (atSlots + k)
+slot-word ws k h = getD-take 64 (drop atSlots ws) k 0 h ∙ getD-drop atSlots ws k 0
 
 -- where the places fit there are at most 64 tokens
-pub places-few : (ws : List ℕ) → placesFit (queueOf ws) ≡ true → word ws 67 ≤ 64
+pub places-few : (ws : List ℕ) → placesFit (queueOf ws) ≡ true → word ws atCount ≤ 64
 unfolding placesFit queueOf
-places-few ws h = leb-true _ _ (and-left (tokensFit (word ws 67)) _ h)
+places-few ws h = leb-true _ _ (and-left (tokensFit (word ws atCount)) _ h)
 
 module _ (ws : List ℕ) where
   pub no-code : encodes ws ≡ false → isSound ws ≡ false
@@ -50,26 +51,26 @@ module _ (ws : List ℕ) where
 -- ---- the clauses on the selection, as the words say it
 -- the ticket that the words hold
 abbrev ticketIn : List ℕ → Ticket
-ticketIn ws = ticketOf (word ws 69) (word ws 70) (word ws 71)
+ticketIn ws = ticketOf (word ws atTicketDomain) (word ws atTicketToken) (word ws atTicketAttempt)
 
 module _ (ws : List ℕ) where
-  pub free-in : word ws 68 ≡ 0 → selectionIn ws ≡ Free
+  pub free-in : word ws atSelected ≡ 0 → selectionIn ws ≡ Free
   free-in e = hit _ (eq-eqb _ _ e)
 
-  pub own-in : (word ws 68 ≡ 0 → ⊥) → selectionIn ws ≡ Of (ticketIn ws)
+  pub own-in : (word ws atSelected ≡ 0 → ⊥) → selectionIn ws ≡ Of (ticketIn ws)
   own-in n = miss _ (ne-eqb _ _ n)
 
-  pub free-fits : word ws 68 ≡ 0 → selectionFits (queueOf ws) ≡ marksFit false (markAt (word ws 72)) (markAt (word ws 73))
+  pub free-fits : word ws atSelected ≡ 0 → selectionFits (queueOf ws) ≡ marksFit false (markAt (word ws atFailed)) (markAt (word ws atIssued))
   unfolding selectionFits queueOf
-  free-fits e = ap (selectionFitsBy (queueOf ws)) (free-in e) ∙ and-true (marksFit false (markAt (word ws 72)) (markAt (word ws 73)))
+  free-fits e = ap (selectionFitsBy (queueOf ws)) (free-in e) ∙ and-true (marksFit false (markAt (word ws atFailed)) (markAt (word ws atIssued)))
 
-  pub ticket-unfit : (word ws 68 ≡ 0 → ⊥) → ticketFits (word ws 1) (word ws 67) (word ws 2) (Of (ticketIn ws)) ≡ false → selectionFits (queueOf ws) ≡ false
+  pub ticket-unfit : (word ws atSelected ≡ 0 → ⊥) → ticketFits (word ws atDomain) (word ws atCount) (word ws atNext) (Of (ticketIn ws)) ≡ false → selectionFits (queueOf ws) ≡ false
   unfolding selectionFits queueOf
   ticket-unfit n t = ap (selectionFitsBy (queueOf ws)) (own-in n) ∙ stop _ t
 
-  pub ticket-place : word ws 67 ≤ 64 → ticketFits (word ws 1) (word ws 67) (word ws 2) (Of (ticketIn ws)) ≡ true → word ws 70 < 64
-  ticket-place few t = ticket-below (word ws 1) (word ws 67) (word ws 2) (ticketIn ws) few t
+  pub ticket-place : word ws atCount ≤ 64 → ticketFits (word ws atDomain) (word ws atCount) (word ws atNext) (Of (ticketIn ws)) ≡ true → word ws atTicketToken < 64
+  ticket-place few t = ticket-below (word ws atDomain) (word ws atCount) (word ws atNext) (ticketIn ws) few t
 
-  pub own-fits : (word ws 68 ≡ 0 → ⊥) → word ws 67 ≤ 64 → ticketFits (word ws 1) (word ws 67) (word ws 2) (Of (ticketIn ws)) ≡ true → selectionFits (queueOf ws) ≡ bothFit (markAt (word ws 72)) (markAt (word ws 73)) (word ws (3 + word ws 70))
+  pub own-fits : (word ws atSelected ≡ 0 → ⊥) → word ws atCount ≤ 64 → ticketFits (word ws atDomain) (word ws atCount) (word ws atNext) (Of (ticketIn ws)) ≡ true → selectionFits (queueOf ws) ≡ bothFit (markAt (word ws atFailed)) (markAt (word ws atIssued)) (word ws (atSlots + word ws atTicketToken))
   unfolding selectionFits queueOf
-  own-fits n few t = ap (selectionFitsBy (queueOf ws)) (own-in n) ∙ (pass _ t ∙ ap (bothFit (markAt (word ws 72)) (markAt (word ws 73))) (slot-word ws (word ws 70) (ticket-place few t)))
+  own-fits n few t = ap (selectionFitsBy (queueOf ws)) (own-in n) ∙ (pass _ t ∙ ap (bothFit (markAt (word ws atFailed)) (markAt (word ws atIssued))) (slot-word ws (word ws atTicketToken) (ticket-place few t)))

@@ -15,6 +15,7 @@ use Rattle.queue_record.specs.Newest.{lastOr, newest}
 use Rattle.queue_record.specs.declared.search.Found.{Found}
 use Rattle.queue_record.specs.declared.search.Found.the-variants.{At, Missing}
 use Rattle.queue_record.proofs.Zeros.{zero-pass}
+use Rattle.queue_words.specs.Layout.{atSlots, wordCount}
 use Rattle.queue_words.specs.Words.{word, slotsIn}
 use Rattle.queue_words.proofs.RoundTrip.{slots-length}
 use Rattle.queue_words.proofs.CheckParts.{slot-word}
@@ -44,17 +45,17 @@ unfolding newest
 found-none xs h = last-zeros 0 xs Missing h
 
 -- ---- one step down, over the words
-module _ (ws : List ℕ) (left : ℕ) (l : length ws ≡ 92) (few : left ≤ 64) (some : 0 < left) (rest : restZero left (slotsIn ws) ≡ true) where
+module _ (ws : List ℕ) (left : ℕ) (l : length ws ≡ wordCount) (few : left ≤ 64) (some : 0 < left) (rest : restZero left (slotsIn ws) ≡ true) where
   one-more : left - 1 + 1 ≡ left
   one-more = omega arith
 
   below : left - 1 < 64
   below = omega arith
 
-  pub down-found : (word ws (3 + (left - 1)) ≡ 0 → ⊥) → newest (occupied 0 (slotsIn ws)) ≡ At (left - 1)
+  pub down-found : (word ws (atSlots + (left - 1)) ≡ 0 → ⊥) → newest (occupied 0 (slotsIn ws)) ≡ At (left - 1)
   down-found n = found-last (slotsIn ws) (left - 1) (ap (λ (i : ℕ). restZero i (slotsIn ws)) one-more ∙ rest) (λ e. n (sym (slot-word ws (left - 1) below) ∙ e))
 
-  pub down-pass : word ws (3 + (left - 1)) ≡ 0 → restZero (left - 1) (slotsIn ws) ≡ true
+  pub down-pass : word ws (atSlots + (left - 1)) ≡ 0 → restZero (left - 1) (slotsIn ws) ≡ true
   down-pass e =
       let b : left - 1 < length (slotsIn ws) = rw (slots-length ws l) below in
       sym (zero-pass (slotsIn ws) (left - 1) b (slot-word ws (left - 1) below ∙ e)) ∙ (ap (λ (i : ℕ). restZero i (slotsIn ws)) one-more ∙ rest)

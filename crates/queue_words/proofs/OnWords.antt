@@ -12,6 +12,7 @@ use Rattle.queue_record.specs.declared.record.Queue.{Queue}
 use Rattle.queue_record.specs.declared.record.Ticket.{Ticket}
 use Rattle.queue_record.specs.declared.record.Selection.the-variants.{Of}
 use Rattle.queue_record.proofs.Fit.{fit, selected-below}
+use Rattle.queue_words.specs.Layout.{atCount, atBound, wordCount}
 use Rattle.queue_words.specs.Words.{word, slotsIn, selectionIn, queueOf, wordsOf, encodes, isSound}
 use Rattle.queue_words.specs.Exported.{Exported, refusedOn, onRecord}
 use Rattle.queue_words.proofs.RoundTrip.{encoded, words-again, queue-again, words-encode, queue-sized}
@@ -52,21 +53,21 @@ module _ (ws : List ℕ) where
     pub sound-on : (given : ℕ) (answered : Exported) → onRecord ws given answered ≡ answered
     sound-on given answered = miss _ (ap not sound-encodes)
 
-    pub sound-length : length ws ≡ 92
+    pub sound-length : length ws ≡ wordCount
     sound-length = encoded ws sound-encodes .long
 
     pub held : Held (queueOf ws) ws
     held = record { words = same-words; slots = queue-sized ws sound-length .slots }
 
-    pub few-tokens : word ws 67 ≤ 64
+    pub few-tokens : word ws atCount ≤ 64
     unfolding queueOf
     few-tokens = fit (queueOf ws) sound-fits .count
 
-    pub rest-zero : restZero (word ws 67) (slotsIn ws) ≡ true
+    pub rest-zero : restZero (word ws atCount) (slotsIn ws) ≡ true
     unfolding queueOf
     rest-zero = fit (queueOf ws) sound-fits .slots
 
-    pub few-bindings : word ws 91 ≤ 16
+    pub few-bindings : word ws atBound ≤ 16
     unfolding queueOf
     few-bindings = fit (queueOf ws) sound-fits .given .bound
 

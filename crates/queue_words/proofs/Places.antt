@@ -7,6 +7,7 @@ use native.Mathlib.Omega.{arith}
 use lib.ListN.{length, getD, set}
 use lib.Seq.{getD-append-add}
 use Rattle.queue_record.specs.declared.record.Queue.{Queue}
+use Rattle.queue_words.specs.Layout.{atCount}
 use Rattle.queue_words.specs.Words.{word, kindWord, wordsBehind, wordsOf}
 
 -- a store behind a first list
@@ -19,12 +20,12 @@ abbrev infront : Queue → List ℕ → List ℕ
 infront q ys = kindWord (q .kind) ∷ q .domain ∷ q .next ∷ (q .slots ++ ys)
 
 module _ (q : Queue) (l : length (q .slots) ≡ 64) where
-  place : (j : ℕ) → 67 + j ≡ suc (suc (suc (length (q .slots) + j)))
+  place : (j : ℕ) → atCount + j ≡ suc (suc (suc (length (q .slots) + j)))
   place j = omega arith
 
-  pub word-behind : (j : ℕ) → word (wordsOf q) (67 + j) ≡ getD (wordsBehind q) j 0
+  pub word-behind : (j : ℕ) → word (wordsOf q) (atCount + j) ≡ getD (wordsBehind q) j 0
   unfolding wordsOf
   word-behind j = ap (word (wordsOf q)) (place j) ∙ getD-append-add (q .slots) (wordsBehind q) j 0
 
-  pub set-behind : (ys : List ℕ) (j v : ℕ) → set (infront q ys) (67 + j) v ≡ infront q (set ys j v)
+  pub set-behind : (ys : List ℕ) (j v : ℕ) → set (infront q ys) (atCount + j) v ≡ infront q (set ys j v)
   set-behind ys j v = ap (λ (k : ℕ). set (infront q ys) k v) (place j) ∙ ap (λ (r : List ℕ). kindWord (q .kind) ∷ q .domain ∷ q .next ∷ r) (set-append-add (q .slots) ys j v)

@@ -20,6 +20,7 @@ use Rattle.queue_questions.specs.Questions.{yesOrNo, asked, nothingLeft, commit
 use Rattle.queue_questions.specs.declared.questions.Told.{Told}
 use Rattle.queue_questions.specs.declared.questions.DomainTold.{DomainTold}
 use Rattle.queue_questions.proofs.Left.{newest-left}
+use Rattle.queue_words.specs.Layout.{atDomain, atNext, atSlots, atSelected, atFailed, atBindings, atBound}
 use Rattle.queue_words.specs.Words.{word, markAt, slotsIn, selectionIn, queueOf, isSound}
 use Rattle.queue_words.specs.Exported.{exported, answerOf, refusedOn, toldSaid, toldOn, domainSaid, domainOn}
 use Rattle.queue_words.specs.InPlace.{saidIn}
@@ -42,35 +43,35 @@ module _ (ws : List ℕ) where
   abbrev left : Selection → Bool
   left s = nothingLeft s (others s (occupied 0 (slotsIn ws)))
 
-  pub left-selected : (word ws 68 ≡ 0 → ⊥) → left (selectionIn ws) ≡ false
+  pub left-selected : (word ws atSelected ≡ 0 → ⊥) → left (selectionIn ws) ≡ false
   left-selected n = ap left (own-in ws n)
 
-  pub left-waiting : (k : ℕ) → word ws 68 ≡ 0 → newest (occupied 0 (slotsIn ws)) ≡ At k → left (selectionIn ws) ≡ false
+  pub left-waiting : (k : ℕ) → word ws atSelected ≡ 0 → newest (occupied 0 (slotsIn ws)) ≡ At k → left (selectionIn ws) ≡ false
   left-waiting k e m = ap left (free-in ws e) ∙ newest-left _ k m
 
-  pub left-none : word ws 68 ≡ 0 → newest (occupied 0 (slotsIn ws)) ≡ Missing → left (selectionIn ws) ≡ true
+  pub left-none : word ws atSelected ≡ 0 → newest (occupied 0 (slotsIn ws)) ≡ Missing → left (selectionIn ws) ≡ true
   left-none e m = ap left (free-in ws e) ∙ ap (nothingLeft Free) (newest-none _ m)
 
   -- ---- retry allowed
   pub allowed-free : selectionIn ws ≡ Free → retryAllowed (queueOf ws) (selectionIn ws) ≡ false
   allowed-free e = ap (retryAllowed (queueOf ws)) e
 
-  pub allowed-own : (t : Ticket) → isSound ws ≡ true → selectionIn ws ≡ Of t → retryAllowed (queueOf ws) (selectionIn ws) ≡ mayRetry (markAt (word ws 72)) (word ws (3 + t .token)) (word ws 2)
+  pub allowed-own : (t : Ticket) → isSound ws ≡ true → selectionIn ws ≡ Of t → retryAllowed (queueOf ws) (selectionIn ws) ≡ mayRetry (markAt (word ws atFailed)) (word ws (atSlots + t .token)) (word ws atNext)
   unfolding queueOf
-  allowed-own t s e = ap (retryAllowed (queueOf ws)) e ∙ ap (λ (n : ℕ). mayRetry (markAt (word ws 72)) n (word ws 2)) (slot-word ws (t .token) (own-place ws s t e))
+  allowed-own t s e = ap (retryAllowed (queueOf ws)) e ∙ ap (λ (n : ℕ). mayRetry (markAt (word ws atFailed)) n (word ws atNext)) (slot-word ws (t .token) (own-place ws s t e))
 
   -- ---- the committed bindings
-  pub committed-words : word ws 91 ≤ 16 → take (75 + word ws 91 - 75) (drop 75 ws) ≡ committed (queueOf ws)
+  pub committed-words : word ws atBound ≤ 16 → take (atBindings + word ws atBound - atBindings) (drop atBindings ws) ≡ committed (queueOf ws)
   unfolding queueOf
   committed-words few =
-      let e : 75 + word ws 91 - 75 ≡ word ws 91 = omega arith in
-      ap (λ (n : ℕ). take n (drop 75 ws)) e ∙ sym (take-take (word ws 91) 16 (drop 75 ws) few)
+      let e : atBindings + word ws atBound - atBindings ≡ word ws atBound = omega arith in
+      ap (λ (n : ℕ). take n (drop atBindings ws)) e ∙ sym (take-take (word ws atBound) 16 (drop atBindings ws) few)
 
   -- ---- the domain
   pub domain-unsound : isSound ws ≡ false → domainOn ws ≡ refusedOn broken 0 ws
   unfolding domainOn domainTold
   domain-unsound u = unsound-by ws 0 _ u (λ e w. ap (λ (t : DomainTold). domainSaid t ws) (hit _ (ap not w)))
 
-  pub domain-sound : isSound ws ≡ true → domainOn ws ≡ exported done (answerOf 1 (word ws 1)) ws
+  pub domain-sound : isSound ws ≡ true → domainOn ws ≡ exported done (answerOf 1 (word ws atDomain)) ws
   unfolding domainOn domainTold queueOf
   domain-sound s = sound-on ws s 0 _ ∙ ap (λ (t : DomainTold). domainSaid t ws) (miss _ (not-broken ws s))

@@ -13,62 +13,63 @@ use Rattle.choice.proofs.Ways.{pass, and-left, and-right}
 use Rattle.stage.proofs.Table.{phase-back}
 use Rattle.queue_record.specs.Record.{Sized}
 use Rattle.queue_record.specs.declared.record.Queue.{Queue}
+use Rattle.queue_words.specs.Layout.{atKind, atDomain, atNext, atSlots, atCount, atSelected, atTicketDomain, atTicketToken, atTicketAttempt, atFailed, atIssued, atPhase, atBindings, atBound, wordCount}
 use Rattle.queue_words.specs.Words.{word, kindAt, markAt, slotsIn, bindingsIn, selectionIn, marksEncode, ticketEncodes, wordsBehind, queueOf, wordsOf, encodes}
 use Rattle.queue_words.proofs.Parts.{kind-back, mark-back, selection-back, kind-again, mark-again, phase-again, selection-again, marks-encode, ticket-encodes}
 use Rattle.queue_words.proofs.Places.{word-behind}
 
--- ---- 92 words, place by place
-module _ (ws : List ℕ) (l : length ws ≡ 92) where
-  one : (j : ℕ) → j < 92 → {rest : List ℕ} → drop (suc j) ws ≡ rest → drop j ws ≡ word ws j ∷ rest
+-- ---- a queue's words, place by place
+module _ (ws : List ℕ) (l : length ws ≡ wordCount) where
+  one : (j : ℕ) → j < wordCount → {rest : List ℕ} → drop (suc j) ws ≡ rest → drop j ws ≡ word ws j ∷ rest
   one j h e = drop-cons ws j 0 (omega arith) ∙ ap (λ (r : List ℕ). word ws j ∷ r) e
 
   many : (j n : ℕ) {rest : List ℕ} → drop (j + n) ws ≡ rest → drop j ws ≡ take n (drop j ws) ++ rest
   many j n e = sym (take-append-drop n (drop j ws)) ∙ ap (λ (r : List ℕ). take n (drop j ws) ++ r) (drop-drop n j ws ∙ e)
 
-  apart : ws ≡ word ws 0 ∷ word ws 1 ∷ word ws 2 ∷ (slotsIn ws ++ (word ws 67 ∷ word ws 68 ∷ word ws 69 ∷ word ws 70 ∷ word ws 71 ∷ word ws 72 ∷ word ws 73 ∷ word ws 74 ∷ (bindingsIn ws ++ (word ws 91 ∷ []))))
+  apart : ws ≡ word ws atKind ∷ word ws atDomain ∷ word ws atNext ∷ (slotsIn ws ++ (word ws atCount ∷ word ws atSelected ∷ word ws atTicketDomain ∷ word ws atTicketToken ∷ word ws atTicketAttempt ∷ word ws atFailed ∷ word ws atIssued ∷ word ws atPhase ∷ (bindingsIn ws ++ (word ws atBound ∷ []))))
   apart =
-      let end : drop 92 ws ≡ [] = drop-of-length-le ws {i = 92} (omega arith) in
-      one 0 (omega arith) (one 1 (omega arith) (one 2 (omega arith) (many 3 64 (one 67 (omega arith) (one 68 (omega arith) (one 69 (omega arith) (one 70 (omega arith) (one 71 (omega arith) (one 72 (omega arith) (one 73 (omega arith) (one 74 (omega arith) (many 75 16 (one 91 (omega arith) end)))))))))))))
+      let end : drop wordCount ws ≡ [] = drop-of-length-le ws {i = wordCount} (omega arith) in
+      one atKind (omega arith) (one atDomain (omega arith) (one atNext (omega arith) (many atSlots 64 (one atCount (omega arith) (one atSelected (omega arith) (one atTicketDomain (omega arith) (one atTicketToken (omega arith) (one atTicketAttempt (omega arith) (one atFailed (omega arith) (one atIssued (omega arith) (one atPhase (omega arith) (many atBindings 16 (one atBound (omega arith) end)))))))))))))
 
 -- ---- what encodes says, part by part
 pub record Encoded (ws : List ℕ) : Type 0 where
-  pub long : length ws ≡ 92
-  pub kind : word ws 0 ≤ 1
-  pub selected : word ws 68 ≤ 1
-  pub failed : word ws 72 ≤ 1
-  pub issued : word ws 73 ≤ 1
-  pub phase : word ws 74 ≤ 4
-  pub ticket : ticketEncodes (word ws 68) (word ws 69) (word ws 70) (word ws 71) ≡ true
+  pub long : length ws ≡ wordCount
+  pub kind : word ws atKind ≤ 1
+  pub selected : word ws atSelected ≤ 1
+  pub failed : word ws atFailed ≤ 1
+  pub issued : word ws atIssued ≤ 1
+  pub phase : word ws atPhase ≤ 4
+  pub ticket : ticketEncodes (word ws atSelected) (word ws atTicketDomain) (word ws atTicketToken) (word ws atTicketAttempt) ≡ true
 
 pub encoded : (ws : List ℕ) → encodes ws ≡ true → Encoded ws
 unfolding encodes
 encoded ws h =
-    let r = and-right (eqb (length ws) 92) _ h in
-    let m = and-left (marksEncode (word ws 0) (word ws 68) (word ws 72) (word ws 73) (word ws 74)) _ r in
-    let m₁ = and-right (leb (word ws 0) 1) _ m in
-    let m₂ = and-right (leb (word ws 68) 1) _ m₁ in
-    let m₃ = and-right (leb (word ws 72) 1) _ m₂ in
+    let r = and-right (eqb (length ws) wordCount) _ h in
+    let m = and-left (marksEncode (word ws atKind) (word ws atSelected) (word ws atFailed) (word ws atIssued) (word ws atPhase)) _ r in
+    let m₁ = and-right (leb (word ws atKind) 1) _ m in
+    let m₂ = and-right (leb (word ws atSelected) 1) _ m₁ in
+    let m₃ = and-right (leb (word ws atFailed) 1) _ m₂ in
     record {
-      long = eqb-true _ _ (and-left (eqb (length ws) 92) _ h);
-      kind = leb-true _ _ (and-left (leb (word ws 0) 1) _ m);
-      selected = leb-true _ _ (and-left (leb (word ws 68) 1) _ m₁);
-      failed = leb-true _ _ (and-left (leb (word ws 72) 1) _ m₂);
-      issued = leb-true _ _ (and-left (leb (word ws 73) 1) _ m₃);
-      phase = leb-true _ _ (and-right (leb (word ws 73) 1) _ m₃);
-      ticket = and-right (marksEncode (word ws 0) (word ws 68) (word ws 72) (word ws 73) (word ws 74)) _ r;
+      long = eqb-true _ _ (and-left (eqb (length ws) wordCount) _ h);
+      kind = leb-true _ _ (and-left (leb (word ws atKind) 1) _ m);
+      selected = leb-true _ _ (and-left (leb (word ws atSelected) 1) _ m₁);
+      failed = leb-true _ _ (and-left (leb (word ws atFailed) 1) _ m₂);
+      issued = leb-true _ _ (and-left (leb (word ws atIssued) 1) _ m₃);
+      phase = leb-true _ _ (and-right (leb (word ws atIssued) 1) _ m₃);
+      ticket = and-right (marksEncode (word ws atKind) (word ws atSelected) (word ws atFailed) (word ws atIssued) (word ws atPhase)) _ r;
     }
 
 pub words-again : (ws : List ℕ) → encodes ws ≡ true → wordsOf (queueOf ws) ≡ ws
 unfolding wordsOf queueOf
 words-again ws h =
     let e = encoded ws h in
-    let s = selection-again (word ws 69) (word ws 70) (word ws 71) (word ws 68) (e .selected) (e .ticket) in
-    rw (kind-again (word ws 0) (e .kind), s .selected, s .domain, s .token, s .attempt, mark-again (word ws 72) (e .failed), mark-again (word ws 73) (e .issued), phase-again (word ws 74) (e .phase)) (sym (apart ws (e .long)))
+    let s = selection-again (word ws atTicketDomain) (word ws atTicketToken) (word ws atTicketAttempt) (word ws atSelected) (e .selected) (e .ticket) in
+    rw (kind-again (word ws atKind) (e .kind), s .selected, s .domain, s .token, s .attempt, mark-again (word ws atFailed) (e .failed), mark-again (word ws atIssued) (e .issued), phase-again (word ws atPhase) (e .phase)) (sym (apart ws (e .long)))
 
 -- ---- the words of a record encode it
 module _ (q : Queue) (s : Sized q) where
   -- the bound stands behind the bindings
-  word-bound : word (wordsOf q) 91 ≡ q .bound
+  word-bound : word (wordsOf q) atBound ≡ q .bound
   word-bound = word-behind q (s .slots) 24 ∙ getD-at (q .bindings) (q .bound) [] 0 16 (s .bindings)
 
   slots-read : slotsIn (wordsOf q) ≡ q .slots
@@ -78,22 +79,22 @@ module _ (q : Queue) (s : Sized q) where
   bindings-read : bindingsIn (wordsOf q) ≡ q .bindings
   unfolding wordsOf
   bindings-read =
-      let d : drop 75 (wordsOf q) ≡ drop 8 (wordsBehind q) = sym (drop-drop 8 64 (q .slots ++ wordsBehind q)) ∙ ap (drop 8) (drop-at (q .slots) (wordsBehind q) 64 (s .slots)) in
+      let d : drop atBindings (wordsOf q) ≡ drop 8 (wordsBehind q) = sym (drop-drop 8 64 (q .slots ++ wordsBehind q)) ∙ ap (drop 8) (drop-at (q .slots) (wordsBehind q) 64 (s .slots)) in
       ap (take 16) d ∙ take-at (q .bindings) (q .bound ∷ []) 16 (s .bindings)
 
   selection-read : selectionIn (wordsOf q) ≡ q .selection
   selection-read = rw (word-behind q (s .slots) 1, word-behind q (s .slots) 2, word-behind q (s .slots) 3, word-behind q (s .slots) 4) (selection-back (q .selection))
 
-  failed-read : markAt (word (wordsOf q) 72) ≡ q .failed
+  failed-read : markAt (word (wordsOf q) atFailed) ≡ q .failed
   failed-read = ap markAt (word-behind q (s .slots) 5) ∙ mark-back (q .failed)
 
-  issued-read : markAt (word (wordsOf q) 73) ≡ q .issued
+  issued-read : markAt (word (wordsOf q) atIssued) ≡ q .issued
   issued-read = ap markAt (word-behind q (s .slots) 6) ∙ mark-back (q .issued)
 
-  phase-read : phaseAt (word (wordsOf q) 74) ≡ q .phase
+  phase-read : phaseAt (word (wordsOf q) atPhase) ≡ q .phase
   phase-read = ap phaseAt (word-behind q (s .slots) 7) ∙ phase-back (q .phase)
 
-  kind-read : kindAt (word (wordsOf q) 0) ≡ q .kind
+  kind-read : kindAt (word (wordsOf q) atKind) ≡ q .kind
   unfolding wordsOf
   kind-read = kind-back (q .kind)
 
@@ -101,7 +102,7 @@ module _ (q : Queue) (s : Sized q) where
   unfolding wordsOf queueOf
   queue-again = rw (kind-read, slots-read, word-behind q (s .slots) 0, selection-read, failed-read, issued-read, phase-read, bindings-read, word-bound)
 
-  pub words-length : length (wordsOf q) ≡ 92
+  pub words-length : length (wordsOf q) ≡ wordCount
   unfolding wordsOf
   words-length =
       let b : length (q .bindings ++ (q .bound ∷ [])) ≡ 17 = length-append (q .bindings) (q .bound ∷ []) ∙ ap (λ (n : ℕ). n + 1) (s .bindings) in
@@ -122,13 +123,13 @@ one-record p q sp sq e = sym (queue-again p sp) ∙ (ap queueOf e ∙ queue-agai
 pub one-encoding : (ws vs : List ℕ) → encodes ws ≡ true → encodes vs ≡ true → queueOf ws ≡ queueOf vs → ws ≡ vs
 one-encoding ws vs ew ev e = sym (words-again ws ew) ∙ (ap wordsOf e ∙ words-again vs ev)
 
--- the record that 92 words encode has its 64 and 16 places
-part-length : (ws : List ℕ) → length ws ≡ 92 → (j n : ℕ) → j + n ≤ 92 → length (take n (drop j ws)) ≡ n
+-- the record that a queue's words encode has its 64 and 16 places
+part-length : (ws : List ℕ) → length ws ≡ wordCount → (j n : ℕ) → j + n ≤ wordCount → length (take n (drop j ws)) ≡ n
 part-length ws l j n h = length-take-le n (drop j ws) (rw (length-drop j ws) (omega arith))
 
-pub slots-length : (ws : List ℕ) → length ws ≡ 92 → length (slotsIn ws) ≡ 64
+pub slots-length : (ws : List ℕ) → length ws ≡ wordCount → length (slotsIn ws) ≡ 64
 slots-length ws l = part-length ws l 3 64 (omega arith)
 
-pub queue-sized : (ws : List ℕ) → length ws ≡ 92 → Sized (queueOf ws)
+pub queue-sized : (ws : List ℕ) → length ws ≡ wordCount → Sized (queueOf ws)
 unfolding queueOf
-queue-sized ws l = record { slots = slots-length ws l; bindings = part-length ws l 75 16 (omega arith) }
+queue-sized ws l = record { slots = slots-length ws l; bindings = part-length ws l atBindings 16 (omega arith) }

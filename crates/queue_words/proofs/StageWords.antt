@@ -11,6 +11,7 @@ use Rattle.queue_record.specs.Refusals.{broken}
 use Rattle.queue_record.specs.Record.{withPhase}
 use Rattle.queue_questions.specs.Questions.{yesOrNo, matches}
 use Rattle.queue_stages.specs.Stages.{afterAdmit, admitted, ended, cancelledBy}
+use Rattle.queue_words.specs.Layout.{atPhase}
 use Rattle.queue_words.specs.Words.{word, queueOf, wordsOf, isSound}
 use Rattle.queue_words.specs.Exported.{refusedOn, toldSaid, stageExported, cancelExported, admitOn, admitWithoutOn, endOn, cancelOn}
 use Rattle.queue_words.specs.InPlace.{saidIn, movedIn}
@@ -21,7 +22,7 @@ use Rattle.queue_words.proofs.OnWords.{unsound-on, sound-on, not-broken
 module _ (ws : List ℕ) where
   -- the phase that the words hold
   abbrev pub phaseIn : Phase
-  phaseIn = phaseAt (word ws 74)
+  phaseIn = phaseAt (word ws atPhase)
 
   module _ (u : isSound ws ≡ false) where
     pub admit-unsound : (target : List ℕ) → admitOn ws target ≡ refusedOn broken 0 ws

@@ -1,4 +1,4 @@
--- What the exported calls do to 92 words: each is the public call on the record that they encode
+-- What the exported calls do to a queue's words: each is the public call on the record that they encode
 use Prim.Native.Nat.{ℕ}
 use mathlib.Core.Bool.{not, false}
 use mathlib.Core.List.{List, [], _∷_}
@@ -29,6 +29,7 @@ use Rattle.queue_stages.specs.Stages.{admitted, ended, cancelledBy}
 use Rattle.queue_stages.specs.declared.stages.StageAnswer.{StageAnswer}
 use Rattle.queue_stages.specs.declared.stages.Cancelled.{Cancelled}
 use Rattle.queue_stages.specs.declared.stages.CancelAnswer.{CancelAnswer}
+use Rattle.queue_words.specs.Layout.{atGivenDomain, atGivenToken, atGivenAttempt}
 use Rattle.queue_words.specs.Words.{word, ticketOf, queueOf, wordsOf, encodes}
 
 -- what a call hands back: the number that it returns, the answer's five words, and the queue's words after it
@@ -92,7 +93,7 @@ completeExported r = completeSaid (r .answer) (wordsOf (r .queue))
 
 -- the three words of the ticket given: domain, token, attempt
 unfoldable pub completeOn : List ℕ → List ℕ → ℕ → ℕ → Exported
-completeOn ws ticket outcome kept = onRecord ws kept (completeExported (completed (queueOf ws) (ticketOf (word ticket 0) (word ticket 1) (word ticket 2)) outcome kept))
+completeOn ws ticket outcome kept = onRecord ws kept (completeExported (completed (queueOf ws) (ticketOf (word ticket atGivenDomain) (word ticket atGivenToken) (word ticket atGivenAttempt)) outcome kept))
 
 abbrev pub retrySaid : Retried → List ℕ → Exported
 retrySaid (Again t) ws = exported done (1 ∷ t .domain ∷ t .token ∷ t .attempt ∷ 0 ∷ []) ws

@@ -8,12 +8,13 @@ use Rattle.stage.specs.Phases.{phaseNumber}
 use Rattle.stage.specs.declared.phases.Phase.{Phase}
 use Rattle.queue_record.specs.Refusals.{done}
 use Rattle.queue_record.specs.declared.record.Selection.{Selection}
+use Rattle.queue_words.specs.Layout.{atKind, atDomain, atNext, atSelected, atTicketDomain, atTicketToken, atTicketAttempt, atPhase, atBound, wordCount}
 use Rattle.queue_words.specs.Words.{selectedWord, domainWord, tokenWord, attemptWord}
 use Rattle.queue_words.specs.Exported.{Exported, exported, answerOf}
 
 -- the four words of a selection
 abbrev pub setSelection : List ℕ → Selection → List ℕ
-setSelection ws s = set (set (set (set ws 68 (selectedWord s)) 69 (domainWord s)) 70 (tokenWord s)) 71 (attemptWord s)
+setSelection ws s = set (set (set (set ws atSelected (selectedWord s)) atTicketDomain (domainWord s)) atTicketToken (tokenWord s)) atTicketAttempt (attemptWord s)
 
 -- yes or no as a word
 abbrev pub yesWord : Bool → ℕ
@@ -31,18 +32,18 @@ saidIn ws told = exported done (answerOf (yesWord told) 0) ws
 
 -- the stage moved, and yes or no
 unfoldable pub movedIn : List ℕ → Bool → Phase → Exported
-movedIn ws told phase = saidIn (set ws 74 (phaseNumber phase)) told
+movedIn ws told phase = saidIn (set ws atPhase (phaseNumber phase)) told
 
--- ---- the openings: all 92 words are written
+-- ---- the openings: every word is written
 abbrev zeroWords : List ℕ
-zeroWords = replicate 92 0
+zeroWords = replicate wordCount 0
 
 abbrev pub scopeIn : ℕ → ℕ → List ℕ
-scopeIn domain first = set (set (set zeroWords 1 domain) 2 first) 74 2
+scopeIn domain first = set (set (set zeroWords atDomain domain) atNext first) atPhase 2
 
 -- an iterator's words before its bindings are put: Idle is 0
 abbrev pub iteratorIn : ℕ → ℕ → ℕ → List ℕ
-iteratorIn domain first bound = set (set (set (set zeroWords 0 1) 1 domain) 2 first) 91 bound
+iteratorIn domain first bound = set (set (set (set zeroWords atKind 1) atDomain domain) atNext first) atBound bound
 
 -- values in their places, one behind the other
 unfoldable pub runPut : List ℕ → ℕ → List ℕ → List ℕ

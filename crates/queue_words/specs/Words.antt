@@ -1,4 +1,4 @@
--- A record as 92 words: which words encode one, and the words of each
+-- A record as words: which words encode one, and the words of each
 use Prim.Native.Nat.{ℕ}
 use mathlib.Core.Bool.{Bool, true, false, _&&_}
 use mathlib.Core.List.{List, [], _∷_, _++_}
@@ -13,6 +13,7 @@ use Rattle.queue_record.specs.declared.record.Ticket.{Ticket}
 use Rattle.queue_record.specs.declared.record.Selection.{Selection}
 use Rattle.queue_record.specs.declared.record.Selection.the-variants.{Free, Of}
 use Rattle.queue_record.specs.declared.record.Queue.{Queue}
+use Rattle.queue_words.specs.Layout.{atKind, atDomain, atNext, atSlots, atCount, atSelected, atTicketDomain, atTicketToken, atTicketAttempt, atFailed, atIssued, atPhase, atBindings, atBound, wordCount}
 
 -- the word at a place
 abbrev pub word : List ℕ → ℕ → ℕ
@@ -59,31 +60,31 @@ selectionAt selected domain token attempt = if eqb selected 0 then Free else Of 
 
 -- ---- the record
 abbrev pub slotsIn : List ℕ → List ℕ
-slotsIn ws = take 64 (drop 3 ws)
+slotsIn ws = take 64 (drop atSlots ws)
 
 abbrev pub bindingsIn : List ℕ → List ℕ
-bindingsIn ws = take 16 (drop 75 ws)
+bindingsIn ws = take 16 (drop atBindings ws)
 
 abbrev pub selectionIn : List ℕ → Selection
-selectionIn ws = selectionAt (word ws 68) (word ws 69) (word ws 70) (word ws 71)
+selectionIn ws = selectionAt (word ws atSelected) (word ws atTicketDomain) (word ws atTicketToken) (word ws atTicketAttempt)
 
 -- the record that words encode, where they do
 unfoldable pub queueOf : List ℕ → Queue
 queueOf ws = record {
-  kind = kindAt (word ws 0);
-  domain = word ws 1;
-  next = word ws 2;
+  kind = kindAt (word ws atKind);
+  domain = word ws atDomain;
+  next = word ws atNext;
   slots = slotsIn ws;
-  count = word ws 67;
+  count = word ws atCount;
   selection = selectionIn ws;
-  failed = markAt (word ws 72);
-  issued = markAt (word ws 73);
-  phase = phaseAt (word ws 74);
+  failed = markAt (word ws atFailed);
+  issued = markAt (word ws atIssued);
+  phase = phaseAt (word ws atPhase);
   bindings = bindingsIn ws;
-  bound = word ws 91;
+  bound = word ws atBound;
 }
 
--- the words behind the slots, from place 67 on
+-- the words behind the slots, from the count on
 abbrev pub wordsBehind : Queue → List ℕ
 wordsBehind q = q .count ∷ selectedWord (q .selection) ∷ domainWord (q .selection) ∷ tokenWord (q .selection) ∷ attemptWord (q .selection) ∷ markWord (q .failed) ∷ markWord (q .issued) ∷ phaseNumber (q .phase) ∷ (q .bindings ++ (q .bound ∷ []))
 
@@ -91,7 +92,7 @@ wordsBehind q = q .count ∷ selectedWord (q .selection) ∷ domainWord (q .sele
 unfoldable pub wordsOf : Queue → List ℕ
 wordsOf q = kindWord (q .kind) ∷ q .domain ∷ q .next ∷ (q .slots ++ wordsBehind q)
 
--- ---- which words encode a record: 92, no number past the last of its kind, and no ticket's words where none is selected
+-- ---- which words encode a record: as many as a queue has, no number past the last of its kind, and no ticket's words where none is selected
 abbrev pub marksEncode : ℕ → ℕ → ℕ → ℕ → ℕ → Bool
 marksEncode kind selected failed issued phase = leb kind 1 && (leb selected 1 && (leb failed 1 && (leb issued 1 && leb phase 4)))
 
@@ -99,7 +100,7 @@ abbrev pub ticketEncodes : ℕ → ℕ → ℕ → ℕ → Bool
 ticketEncodes selected domain token attempt = implies (eqb selected 0) (eqb domain 0 && (eqb token 0 && eqb attempt 0))
 
 unfoldable pub encodes : List ℕ → Bool
-encodes ws = eqb (length ws) 92 && (marksEncode (word ws 0) (word ws 68) (word ws 72) (word ws 73) (word ws 74) && ticketEncodes (word ws 68) (word ws 69) (word ws 70) (word ws 71))
+encodes ws = eqb (length ws) wordCount && (marksEncode (word ws atKind) (word ws atSelected) (word ws atFailed) (word ws atIssued) (word ws atPhase) && ticketEncodes (word ws atSelected) (word ws atTicketDomain) (word ws atTicketToken) (word ws atTicketAttempt))
 
 -- ---- the clauses of a well-formed record in two parts: its places, and its selection
 unfoldable pub placesFit : Queue → Bool

@@ -1,5 +1,6 @@
-// Whether 92 words encode a well-formed record: one test for each clause, and one pass over the unused places.
+// Whether words encode a well-formed record: one test for each clause, and one pass over the unused places.
 use crate::decoding::kind_at;
+use crate::layout::*;
 use queue_record::Ticket;
 use queue_record::scope_fits;
 use queue_record::slot_fits;
@@ -7,6 +8,7 @@ use queue_record::ticket_fits;
 use queue_record::zeros_from;
 ghost use mathlib.Core.Path.{_≡_};
 ghost use Prim.Native.Nat.{_≤_};
+ghost use Rattle.queue_words.specs.Layout.{atCount};
 ghost use Rattle.queue_words.specs.Words.{word, marksEncode, ticketEncodes, queueOf, encodes, placesFit, selectionFits, isSound};
 
 // No number past the last of its kind.
@@ -45,64 +47,75 @@ fn ticket_encodes(selected: u64, domain: u64, token: u64, attempt: u64) -> bool
 }
 
 // Whether the words encode a record.
-fn encode_record(w: &[u64; 92]) -> bool
+fn encode_record(w: &Words) -> bool
     ensures { λ r. ⌜ r ≡ encodes (now (w .entry)) ⌝ }
 {
     let words = &w[..];
-    if !marks_encode(words[0], words[68], words[72], words[73], words[74]) {
+    if !marks_encode(
+        words[KIND],
+        words[SELECTED],
+        words[FAILED],
+        words[ISSUED],
+        words[PHASE],
+    ) {
         return false;
     }
-    ticket_encodes(words[68], words[69], words[70], words[71])
+    ticket_encodes(
+        words[SELECTED],
+        words[TICKET_DOMAIN],
+        words[TICKET_TOKEN],
+        words[TICKET_ATTEMPT],
+    )
 }
 
 // The unused places are 0, and a scope has no bindings and is Ended or Closed.
-fn places_fit(w: &[u64; 92]) -> bool
+fn places_fit(w: &Words) -> bool
     ensures { λ r. ⌜ r ≡ placesFit (queueOf (now (w .entry))) ⌝ }
 {
-    let count = w[67];
+    let count = w[COUNT];
     if 64 < count {
         return false;
     }
-    let bound = w[91];
+    let bound = w[BOUND];
     if 16 < bound {
         return false;
     }
     let words = &w[..];
-    if !zeros_from(&words[3..67], count) {
+    if !zeros_from(&words[SLOTS..COUNT], count) {
         return false;
     }
-    if !zeros_from(&words[75..91], bound) {
+    if !zeros_from(&words[BINDINGS..BOUND], bound) {
         return false;
     }
-    scope_fits(kind_at(w[0]), bound, stage::phase_at(w[74]))
+    scope_fits(kind_at(w[KIND]), bound, stage::phase_at(w[PHASE]))
 }
 
 // The selected ticket, the two marks and the ticket's slot agree.
-fn selection_fits(w: &[u64; 92]) -> bool
-    requires { ⌜ word (now w) 67 ≤ 64 ⌝ }
+fn selection_fits(w: &Words) -> bool
+    requires { ⌜ word (now w) atCount ≤ 64 ⌝ }
     ensures { λ r. ⌜ r ≡ selectionFits (queueOf (now (w .entry))) ⌝ }
 {
-    if w[68] == 0 {
-        if w[72] == 1 {
+    if w[SELECTED] == 0 {
+        if w[FAILED] == 1 {
             return false;
         }
-        return w[73] != 1;
+        return w[ISSUED] != 1;
     }
-    let token = w[70];
+    let token = w[TICKET_TOKEN];
     let ticket = Ticket {
-        domain: w[69],
+        domain: w[TICKET_DOMAIN],
         token: token,
-        attempt: w[71],
+        attempt: w[TICKET_ATTEMPT],
     };
-    if !ticket_fits(w[1], w[67], w[2], ticket) {
+    if !ticket_fits(w[DOMAIN], w[COUNT], w[NEXT], ticket) {
         return false;
     }
-    let at = 3 + token as usize;
-    slot_fits(w[72] == 1, w[73] == 1, w[at])
+    let at = SLOTS + token as usize;
+    slot_fits(w[FAILED] == 1, w[ISSUED] == 1, w[at])
 }
 
 // What every call asks first.
-pub fn sound(w: &[u64; 92]) -> bool
+pub fn sound(w: &Words) -> bool
     ensures { λ r. ⌜ r ≡ isSound (now (w .entry)) ⌝ }
 {
     if !encode_record(w) {

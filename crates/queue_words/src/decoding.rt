@@ -1,8 +1,10 @@
 // The parts of a record from their words: the kind, a ticket and the selection.
+use crate::layout::*;
 use queue_record::Kind;
 use queue_record::Selection;
 use queue_record::Ticket;
 ghost use mathlib.Core.Path.{_≡_};
+ghost use Rattle.queue_words.specs.Layout.{atGivenDomain, atGivenToken, atGivenAttempt};
 ghost use Rattle.queue_words.specs.Words.{word, kindAt, ticketOf, selectionAt};
 
 pub fn kind_at(number: u64) -> Kind
@@ -27,12 +29,12 @@ pub fn selection_at(selected: u64, domain: u64, token: u64, attempt: u64) -> Sel
     })
 }
 
-pub fn ticket_at(words: &[u64; 3]) -> Ticket
-    ensures { λ r. ⌜ r ≡ ticketOf (word (now (words .entry)) 0) (word (now (words .entry)) 1) (word (now (words .entry)) 2) ⌝ }
+pub fn ticket_at(words: &TicketWords) -> Ticket
+    ensures { λ r. ⌜ r ≡ ticketOf (word (now (words .entry)) atGivenDomain) (word (now (words .entry)) atGivenToken) (word (now (words .entry)) atGivenAttempt) ⌝ }
 {
     Ticket {
-        domain: words[0],
-        token: words[1],
-        attempt: words[2],
+        domain: words[GIVEN_DOMAIN],
+        token: words[GIVEN_TOKEN],
+        attempt: words[GIVEN_ATTEMPT],
     }
 }

@@ -1,6 +1,7 @@
-// A queue as 92 words: its parts as they stand there, the check on the way in, and what the calls share.
+// A queue as words: their places, its parts as they stand there, the check on the way in, and what the calls share.
 mod check;
 mod decoding;
+pub mod layout;
 mod questions;
 mod search;
 mod steps;

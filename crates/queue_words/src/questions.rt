@@ -1,5 +1,6 @@
 // What is asked of sound words.
 use crate::decoding::selection_at;
+use crate::layout::*;
 use crate::search::newest_waiting;
 use queue_questions::may_finish;
 use queue_record::Found;
@@ -12,14 +13,15 @@ ghost use Rattle.stage.specs.Phases.{phaseAt};
 ghost use Rattle.queue_record.specs.Waiting.{occupied, others};
 ghost use Rattle.queue_steps.specs.Attempts.{retryAllowed};
 ghost use Rattle.queue_questions.specs.Questions.{nothingLeft, matches, finishable, committed};
+ghost use Rattle.queue_words.specs.Layout.{atPhase, atBound};
 ghost use Rattle.queue_words.specs.Words.{word, slotsIn, selectionIn, queueOf, isSound};
 
 // Nothing waiting and nothing selected.
-pub fn nothing_left(w: &[u64; 92]) -> bool
+pub fn nothing_left(w: &Words) -> bool
     requires { ⌜ isSound (now w) ≡ true ⌝ }
     ensures { λ r. ⌜ r ≡ nothingLeft (selectionIn (now (w .entry))) (others (selectionIn (now (w .entry))) (occupied 0 (slotsIn (now (w .entry))))) ⌝ }
 {
-    if w[68] != 0 {
+    if w[SELECTED] != 0 {
         return false;
     }
     let found = newest_waiting(w);
@@ -29,35 +31,45 @@ pub fn nothing_left(w: &[u64; 92]) -> bool
     true
 }
 
-pub fn retry_allowed(w: &[u64; 92]) -> bool
+pub fn retry_allowed(w: &Words) -> bool
     requires { ⌜ isSound (now w) ≡ true ⌝ }
     ensures { λ r. ⌜ r ≡ retryAllowed (queueOf (now (w .entry))) (selectionIn (now (w .entry))) ⌝ }
 {
-    let selection = selection_at(w[68], w[69], w[70], w[71]);
+    let selection = selection_at(
+        w[SELECTED],
+        w[TICKET_DOMAIN],
+        w[TICKET_TOKEN],
+        w[TICKET_ATTEMPT],
+    );
     let Selection::Of(ticket) = selection else {
         return false;
     };
-    let at = 3 + ticket.token as usize;
-    may_retry(w[72] == 1, w[at], w[2])
+    let at = SLOTS + ticket.token as usize;
+    may_retry(w[FAILED] == 1, w[at], w[NEXT])
 }
 
-pub fn finish_allowed(w: &[u64; 92], target: &[u64]) -> bool
-    requires { ⌜ word (now w) 91 ≤ 16 ⌝ }
-    ensures { λ r. ⌜ r ≡ finishable (selectionIn (now (w .entry))) (phaseAt (word (now (w .entry)) 74)) (now (target .entry)) (committed (queueOf (now (w .entry)))) ⌝ }
+pub fn finish_allowed(w: &Words, target: &[u64]) -> bool
+    requires { ⌜ word (now w) atBound ≤ 16 ⌝ }
+    ensures { λ r. ⌜ r ≡ finishable (selectionIn (now (w .entry))) (phaseAt (word (now (w .entry)) atPhase)) (now (target .entry)) (committed (queueOf (now (w .entry)))) ⌝ }
 {
-    let selection = selection_at(w[68], w[69], w[70], w[71]);
-    let phase = stage::phase_at(w[74]);
-    let end = 75 + w[91] as usize;
+    let selection = selection_at(
+        w[SELECTED],
+        w[TICKET_DOMAIN],
+        w[TICKET_TOKEN],
+        w[TICKET_ATTEMPT],
+    );
+    let phase = stage::phase_at(w[PHASE]);
+    let end = BINDINGS + w[BOUND] as usize;
     let words = &w[..];
-    may_finish(selection, phase, target, &words[75..end])
+    may_finish(selection, phase, target, &words[BINDINGS..end])
 }
 
 // Whether the target is the committed set.
-pub fn target_matches(w: &[u64; 92], target: &[u64]) -> bool
-    requires { ⌜ word (now w) 91 ≤ 16 ⌝ }
+pub fn target_matches(w: &Words, target: &[u64]) -> bool
+    requires { ⌜ word (now w) atBound ≤ 16 ⌝ }
     ensures { λ r. ⌜ r ≡ matches (queueOf (now (w .entry))) (now (target .entry)) ⌝ }
 {
-    let end = 75 + w[91] as usize;
+    let end = BINDINGS + w[BOUND] as usize;
     let words = &w[..];
-    stage::same_set(target, &words[75..end])
+    stage::same_set(target, &words[BINDINGS..end])
 }

@@ -1,4 +1,5 @@
 // The newest waiting token.
+use crate::layout::*;
 use queue_record::Found;
 ghost use mathlib.Core.Path.{_≡_};
 ghost use mathlib.Core.Bool.{true};
@@ -7,14 +8,14 @@ ghost use Rattle.queue_record.specs.Newest.{newest};
 ghost use Rattle.queue_words.specs.Words.{slotsIn, isSound};
 
 // From the last token down: behind it a sound record holds only 0.
-pub fn newest_waiting(w: &[u64; 92]) -> Found
+pub fn newest_waiting(w: &Words) -> Found
     requires { ⌜ isSound (now w) ≡ true ⌝ }
     ensures { λ r. ⌜ r ≡ newest (occupied 0 (slotsIn (now (w .entry)))) ⌝ }
 {
-    let mut left = w[67] as usize;
+    let mut left = w[COUNT] as usize;
     while 0 < left {
         left -= 1;
-        if w[3 + left] != 0 {
+        if w[SLOTS + left] != 0 {
             return Found::At(left as u64);
         }
     }

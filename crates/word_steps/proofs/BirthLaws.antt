@@ -15,6 +15,7 @@ use Rattle.queue_record.specs.WellFormed.{wellFormed}
 use Rattle.queue_record.specs.declared.record.Queue.{Queue}
 use Rattle.queue_births.specs.Births.{grown, registered, landed}
 use Rattle.queue_births.specs.declared.births.RegisterAnswer.{RegisterAnswer}
+use Rattle.queue_words.specs.Layout.{atCount, atPhase}
 use Rattle.queue_words.specs.Words.{word, queueOf, isSound}
 use Rattle.queue_words.specs.Exported.{Exported, exported, answerOf, refusedOn, onRecord, bornExported, registerOn, landOn}
 use Rattle.queue_words.proofs.Setters.{Held, hold-slot, hold-count, hold-phase}
@@ -50,24 +51,24 @@ module _ (q : Queue) (number : ℕ) where
 
 module _ (ws : List ℕ) (s : isSound ws ≡ true) (number : ℕ) where
   -- ---- the stores
-  module _ (room : word ws 67 < 64) where
+  module _ (room : word ws atCount < 64) where
     pub grown-held : Held (grown (queueOf ws) number) (grownIn ws number)
     unfolding queueOf
-    grown-held = hold-count (hold-slot (held ws s) (word ws 67) number room) _
+    grown-held = hold-count (hold-slot (held ws s) (word ws atCount) number room) _
 
     pub landed-held : Held (landedTo (queueOf ws) number) (landedIn ws number)
     unfolding queueOf
-    landed-held = hold-phase grown-held (next (phaseAt (word ws 74)) Land)
+    landed-held = hold-phase grown-held (next (phaseAt (word ws atPhase)) Land)
 
   -- ---- the calls, by the number n that refuses them
   -- one call: its answer r, whose record is after where nothing refuses, and the words vs that hold this
   pub record Birth (n : ℕ) (call : Exported) (r : RegisterAnswer) (after : Queue) (vs : List ℕ) : Type 0 where
     pub by : r ≡ bornBy (queueOf ws) number after n
-    pub place : n ≡ 0 → word ws 67 < 64
+    pub place : n ≡ 0 → word ws atCount < 64
     pub refuses : (n ≡ 0 → ⊥) → call ≡ refusedOn n number ws
-    pub answers : n ≡ 0 → call ≡ exported done (answerOf 1 (word ws 67)) vs
+    pub answers : n ≡ 0 → call ≡ exported done (answerOf 1 (word ws atCount)) vs
 
-  module _ (n due : ℕ) (r : RegisterAnswer) (after : Queue) (vs : List ℕ) (e : n ≡ due) (parts : r ≡ bornBy (queueOf ws) number after due) (room : Room (queueOf ws) number due) (stores : word ws 67 < 64 → Held after vs) where
+  module _ (n due : ℕ) (r : RegisterAnswer) (after : Queue) (vs : List ℕ) (e : n ≡ due) (parts : r ≡ bornBy (queueOf ws) number after due) (room : Room (queueOf ws) number due) (stores : word ws atCount < 64 → Held after vs) where
     birth : Birth n (onRecord ws number (bornExported r)) r after vs
     unfolding queueOf
     birth =
@@ -76,7 +77,7 @@ module _ (ws : List ℕ) (s : isSound ws ≡ true) (number : ℕ) where
           by = made;
           place = λ z. room (sym e ∙ z);
           refuses = λ z. sound-on ws s number _ ∙ (ap bornExported (made ∙ miss _ (ne-eqb _ _ z)) ∙ ap (refusedOn n number) (same-words ws s));
-          answers = λ z. sound-on ws s number _ ∙ (ap bornExported (made ∙ hit _ (eq-eqb _ _ z)) ∙ ap (exported done (answerOf 1 (word ws 67))) (stores (room (sym e ∙ z)) .words));
+          answers = λ z. sound-on ws s number _ ∙ (ap bornExported (made ∙ hit _ (eq-eqb _ _ z)) ∙ ap (exported done (answerOf 1 (word ws atCount))) (stores (room (sym e ∙ z)) .words));
         }
 
   pub register-birth : (n : ℕ) → n ≡ registerRefusal (queueOf ws) number → Birth n (registerOn ws number) (registered (queueOf ws) number) (grown (queueOf ws) number) (grownIn ws number)

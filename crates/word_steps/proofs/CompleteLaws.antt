@@ -15,6 +15,7 @@ use Rattle.queue_record.specs.declared.record.Queue.{Queue}
 use Rattle.queue_steps.specs.Attempts.{isOut, keepsOnDone, tookBack, answered, completed}
 use Rattle.queue_steps.specs.declared.attempts.CompleteAnswer.{CompleteAnswer}
 use Rattle.queue_steps.proofs.Out.{out-below}
+use Rattle.queue_words.specs.Layout.{atGivenDomain, atGivenToken, atGivenAttempt}
 use Rattle.queue_words.specs.Words.{word, ticketOf, queueOf, isSound}
 use Rattle.queue_words.specs.Exported.{exported, answerOf, refusedOn, completeExported, completeOn}
 use Rattle.queue_words.proofs.Setters.{Held, hold-slot, hold-selection, hold-failed, hold-issued}
@@ -52,7 +53,7 @@ module _ (ws : List ℕ) (s : isSound ws ≡ true) (t : Ticket) (outcome kept n 
   pub complete-by : completed (queueOf ws) t outcome kept ≡ completedBy (queueOf ws) t outcome kept n
   complete-by = complete-parts (queueOf ws) (sound-fits ws s) t outcome kept ∙ ap (completedBy (queueOf ws) t outcome kept) (sym e)
 
-  module _ (ticket : List ℕ) (g : t ≡ ticketOf (word ticket 0) (word ticket 1) (word ticket 2)) where
+  module _ (ticket : List ℕ) (g : t ≡ ticketOf (word ticket atGivenDomain) (word ticket atGivenToken) (word ticket atGivenAttempt)) where
     complete-on : completeOn ws ticket outcome kept ≡ completeExported (completedBy (queueOf ws) t outcome kept n)
     unfolding completeOn
     complete-on = sound-on ws s kept _ ∙ ap completeExported (ap (λ (x : Ticket). completed (queueOf ws) x outcome kept) (sym g) ∙ complete-by)

@@ -22,6 +22,7 @@ use Rattle.queue_record.specs.declared.search.Found.the-variants.{At, Missing}
 use Rattle.queue_record.proofs.Fit.{selected-below, ready-occupied}
 use Rattle.queue_record.proofs.Last.{newest-full, newest-below}
 use Rattle.queue_steps.specs.Attempts.{noMore, freshTicket, issuedTo, freshAt, poppedBy, popped}
+use Rattle.queue_words.specs.Layout.{atSlots}
 use Rattle.queue_words.specs.Words.{word, queueOf, wordsOf, isSound}
 use Rattle.queue_words.specs.Exported.{Exported, exported, answerOf, refusedOn, popExported, popOn}
 use Rattle.queue_words.proofs.RoundTrip.{queue-sized}
@@ -93,7 +94,7 @@ module _ (ws : List ℕ) (s : isSound ws ≡ true) where
 
       pub pop-work : popOn ws ≡ handedIn ws t next
       unfolding handedIn queueOf work
-      pop-work = pop-on ∙ (ap (λ (x : Due). popExported (poppedAs (queueOf ws) x)) h ∙ (ap (λ (n : ℕ). work n (wordsOf (issuedTo (queueOf ws) t next))) (slot-word ws (t .token) due-place) ∙ ap (work (word ws (3 + t .token))) (issued-held t next due-place .words)))
+      pop-work = pop-on ∙ (ap (λ (x : Due). popExported (poppedAs (queueOf ws) x)) h ∙ (ap (λ (n : ℕ). work n (wordsOf (issuedTo (queueOf ws) t next))) (slot-word ws (t .token) due-place) ∙ ap (work (word ws (atSlots + t .token))) (issued-held t next due-place .words)))
 
 -- words that are not sound are refused with 1
 pub pop-unsound : (ws : List ℕ) → isSound ws ≡ false → popOn ws ≡ refusedOn broken 0 ws

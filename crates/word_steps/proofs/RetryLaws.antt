@@ -14,6 +14,7 @@ use Rattle.queue_record.specs.declared.record.Selection.the-variants.{Free, Of}
 use Rattle.queue_record.specs.declared.record.Queue.{Queue}
 use Rattle.queue_steps.specs.Attempts.{slot, refusedRetry, mayRetry, retryAllowed, renewed, again, retriedBy, retried}
 use Rattle.queue_steps.proofs.Out.{retry-room}
+use Rattle.queue_words.specs.Layout.{atNext, atSlots, atFailed}
 use Rattle.queue_words.specs.Words.{word, markAt, ticketOf, selectionIn, queueOf, isSound}
 use Rattle.queue_words.specs.Exported.{exported, refusedOn, retryExported, retryOn}
 use Rattle.queue_words.proofs.Setters.{Held, hold-next, hold-selection, hold-failed}
@@ -49,13 +50,13 @@ module _ (ws : List ℕ) (s : isSound ws ≡ true) where
   renewal-free e = ap (renewalOf (queueOf ws)) e
 
   module _ (t : Ticket) (e : selectionIn ws ≡ Of t) where
-    may : mayRetry (markAt (word ws 72)) (word ws (3 + t .token)) (word ws 2) ≡ retryAllowed (queueOf ws) (Of t)
+    may : mayRetry (markAt (word ws atFailed)) (word ws (atSlots + t .token)) (word ws atNext) ≡ retryAllowed (queueOf ws) (Of t)
     may = sym (allowed-own ws t s e) ∙ ap (retryAllowed (queueOf ws)) e
 
-    pub renewal-none : mayRetry (markAt (word ws 72)) (word ws (3 + t .token)) (word ws 2) ≡ false → renewalOf (queueOf ws) (selectionIn ws) ≡ Free
+    pub renewal-none : mayRetry (markAt (word ws atFailed)) (word ws (atSlots + t .token)) (word ws atNext) ≡ false → renewalOf (queueOf ws) (selectionIn ws) ≡ Free
     renewal-none m = ap (renewalOf (queueOf ws)) e ∙ miss _ (sym may ∙ m)
 
-    pub renewal-own : mayRetry (markAt (word ws 72)) (word ws (3 + t .token)) (word ws 2) ≡ true → renewalOf (queueOf ws) (selectionIn ws) ≡ Of (ticketOf (t .domain) (t .token) (word ws 2))
+    pub renewal-own : mayRetry (markAt (word ws atFailed)) (word ws (atSlots + t .token)) (word ws atNext) ≡ true → renewalOf (queueOf ws) (selectionIn ws) ≡ Of (ticketOf (t .domain) (t .token) (word ws atNext))
     unfolding queueOf
     renewal-own m = ap (renewalOf (queueOf ws)) e ∙ hit _ (sym may ∙ m)
 

@@ -12,6 +12,7 @@ use Rattle.queue_record.specs.declared.record.Queue.{Queue}
 use Rattle.queue_steps.specs.Attempts.{isOut, keepsOnDone, answered, refusedComplete}
 use Rattle.queue_steps.specs.declared.attempts.Completed.the-variants.{Settled}
 use Rattle.queue_steps.specs.declared.attempts.CompleteAnswer.{CompleteAnswer}
+use Rattle.queue_words.specs.Layout.{atSlots, atFailed, atIssued}
 use Rattle.queue_words.specs.InPlace.{setSelection}
 
 unfoldable pub completeRefusal : Queue → Ticket → ℕ → ℕ → ℕ
@@ -27,10 +28,10 @@ completedBy q ticket outcome kept refusal = if eqb refusal 0 then record { answe
 
 -- the slot takes the kept number, issued clears
 abbrev pub tookIn : List ℕ → ℕ → ℕ → List ℕ
-tookIn ws token kept = set (set ws (3 + token) kept) 73 0
+tookIn ws token kept = set (set ws (atSlots + token) kept) atIssued 0
 
 -- Done clears the selection; Failed keeps it and sets failed
 abbrev pub settledIn : List ℕ → ℕ → ℕ → ℕ → List ℕ
 settledIn ws token outcome kept =
     if eqb outcome 0 then setSelection (tookIn ws token kept) Free else
-    set (tookIn ws token kept) 72 1
+    set (tookIn ws token kept) atFailed 1

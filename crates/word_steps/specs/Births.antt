@@ -11,6 +11,7 @@ use Rattle.queue_record.specs.Refusals.{done, badNumber, noSlot, notPending}
 use Rattle.queue_record.specs.declared.record.Queue.{Queue}
 use Rattle.queue_births.specs.Births.{refusedBirth, born}
 use Rattle.queue_births.specs.declared.births.RegisterAnswer.{RegisterAnswer}
+use Rattle.queue_words.specs.Layout.{atSlots, atCount, atPhase}
 use Rattle.queue_words.specs.Words.{word}
 
 unfoldable pub registerRefusal : Queue → ℕ → ℕ
@@ -32,8 +33,8 @@ bornBy q number after refusal = if eqb refusal 0 then born q after else refusedB
 
 -- the number in its slot, and one token more
 abbrev pub grownIn : List ℕ → ℕ → List ℕ
-grownIn ws number = set (set ws (3 + word ws 67) number) 67 (word ws 67 + 1)
+grownIn ws number = set (set ws (atSlots + word ws atCount) number) atCount (word ws atCount + 1)
 
 -- the same, and the stage moved by land
 abbrev pub landedIn : List ℕ → ℕ → List ℕ
-landedIn ws number = set (grownIn ws number) 74 (phaseNumber (next (phaseAt (word ws 74)) Land))
+landedIn ws number = set (grownIn ws number) atPhase (phaseNumber (next (phaseAt (word ws atPhase)) Land))

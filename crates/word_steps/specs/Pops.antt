@@ -15,6 +15,7 @@ use Rattle.queue_record.specs.declared.search.Found.{Found}
 use Rattle.queue_record.specs.declared.search.Found.the-variants.{At, Missing}
 use Rattle.queue_steps.specs.Attempts.{noMore, slot, refusedPop, nothing, handed, freshTicket}
 use Rattle.queue_steps.specs.declared.attempts.PopAnswer.{PopAnswer}
+use Rattle.queue_words.specs.Layout.{atNext, atSlots, atIssued}
 use Rattle.queue_words.specs.Words.{word}
 use Rattle.queue_words.specs.Exported.{Exported, exported}
 use Rattle.queue_words.specs.InPlace.{setSelection}
@@ -44,8 +45,8 @@ poppedAs q (Due.Of ticket next) = handed q ticket (slot q (ticket .token)) next
 
 -- stored in place: the ticket is selected, its slot empties, next and issued are set
 abbrev pub issuedIn : List ℕ → Ticket → ℕ → List ℕ
-issuedIn ws t next = set (set (set (setSelection ws (Of t)) (3 + t .token) 0) 2 next) 73 1
+issuedIn ws t next = set (set (set (setSelection ws (Of t)) (atSlots + t .token) 0) atNext next) atIssued 1
 
 -- the ticket and its number are the answer
 unfoldable pub handedIn : List ℕ → Ticket → ℕ → Exported
-handedIn ws t next = exported done (2 ∷ t .domain ∷ t .token ∷ t .attempt ∷ word ws (3 + t .token) ∷ []) (issuedIn ws t next)
+handedIn ws t next = exported done (2 ∷ t .domain ∷ t .token ∷ t .attempt ∷ word ws (atSlots + t .token) ∷ []) (issuedIn ws t next)

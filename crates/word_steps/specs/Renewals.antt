@@ -12,6 +12,7 @@ use Rattle.queue_record.specs.declared.record.Queue.{Queue}
 use Rattle.queue_steps.specs.Attempts.{refusedRetry, retryAllowed, renewed}
 use Rattle.queue_steps.specs.declared.attempts.Retried.the-variants.{Again}
 use Rattle.queue_steps.specs.declared.attempts.RetryAnswer.{RetryAnswer}
+use Rattle.queue_words.specs.Layout.{atNext, atFailed}
 use Rattle.queue_words.specs.InPlace.{setSelection}
 use mathlib.Core.Bool.{false}
 
@@ -31,4 +32,4 @@ retriedAs q (Of t) = record { answer = Again t; queue = renewedTo q t }
 
 -- stored in place
 abbrev pub renewedIn : List ℕ → Ticket → List ℕ
-renewedIn ws t = set (set (setSelection ws (Of t)) 2 (t .attempt + 1)) 72 0
+renewedIn ws t = set (set (setSelection ws (Of t)) atNext (t .attempt + 1)) atFailed 0

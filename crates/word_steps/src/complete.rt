@@ -6,6 +6,7 @@ use queue_record::refusal::NOT_OUT;
 use queue_steps::is_out;
 use queue_steps::keeps_on_done;
 use queue_words::deselect;
+use queue_words::layout::*;
 use queue_words::selection_at;
 use queue_words::ticket_at;
 ghost use mathlib.Core.Path.{_≡_};
@@ -16,14 +17,19 @@ ghost use Rattle.queue_words.specs.Exported.{exported, completeOn};
 ghost use Rattle.word_steps.specs.Answers.{completeRefusal, settledIn};
 
 // 0 where nothing does.
-pub fn complete_refusal(queue: &[u64; 92], ticket: Ticket, outcome: u64, kept: u64) -> u64
+pub fn complete_refusal(queue: &Words, ticket: Ticket, outcome: u64, kept: u64) -> u64
     ensures { λ r. ⌜ r ≡ completeRefusal (queueOf (now (queue .entry))) ticket outcome kept ⌝ }
 {
     if 1 < outcome {
         return BAD_OUTCOME;
     }
-    let selection = selection_at(queue[68], queue[69], queue[70], queue[71]);
-    if !is_out(queue[73] == 1, selection, ticket) {
+    let selection = selection_at(
+        queue[SELECTED],
+        queue[TICKET_DOMAIN],
+        queue[TICKET_TOKEN],
+        queue[TICKET_ATTEMPT],
+    );
+    if !is_out(queue[ISSUED] == 1, selection, ticket) {
         return NOT_OUT;
     }
     if keeps_on_done(outcome, kept) {
@@ -33,26 +39,26 @@ pub fn complete_refusal(queue: &[u64; 92], ticket: Ticket, outcome: u64, kept: u
 }
 
 // The slot takes the kept number, issued clears; Done clears the selection, Failed sets failed.
-pub fn settle(queue: &mut [u64; 92], token: u64, outcome: u64, kept: u64)
+pub fn settle(queue: &mut Words, token: u64, outcome: u64, kept: u64)
     requires { ⌜ token < 64 ⌝ }
     ensures { λ _. ⌜ now (queue .exit) ≡ settledIn (now (queue .entry)) token outcome kept ⌝ }
 {
-    let at = 3 + token as usize;
+    let at = SLOTS + token as usize;
     queue[at] = kept;
-    queue[73] = 0;
+    queue[ISSUED] = 0;
     if outcome == 0 {
         deselect(queue);
         return;
     }
-    queue[72] = 1;
+    queue[FAILED] = 1;
 }
 
 pub fn complete_in(
-    queue: &mut [u64; 92],
-    ticket: &[u64; 3],
+    queue: &mut Words,
+    ticket: &TicketWords,
     outcome: u64,
     kept: u64,
-    answer: &mut [u64; 5],
+    answer: &mut Answer,
 ) -> u64
     requires { ⌜ isSound (now queue) ≡ true ⌝ }
     ensures { λ r. ⌜ exported r (now (answer .exit)) (now (queue .exit)) ≡ completeOn (now (queue .entry)) (now (ticket .entry)) outcome kept ⌝ }

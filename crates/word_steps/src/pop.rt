@@ -3,6 +3,7 @@ use queue_record::Found;
 use queue_record::Selection;
 use queue_record::Ticket;
 use queue_record::refusal::NO_ATTEMPT;
+use queue_words::layout::*;
 use queue_words::newest_waiting;
 use queue_words::select;
 use queue_words::selection_at;
@@ -24,18 +25,23 @@ pub enum Due {
     Of(Ticket, u64),
 }
 
-pub fn pop_due(w: &[u64; 92]) -> Due
+pub fn pop_due(w: &Words) -> Due
     requires { ⌜ isSound (now w) ≡ true ⌝ }
     ensures { λ r. ⌜ r ≡ popDue (queueOf (now (w .entry))) ⌝ }
 {
-    if w[73] == 1 {
+    if w[ISSUED] == 1 {
         return Due::Nothing;
     }
-    if w[72] == 1 {
+    if w[FAILED] == 1 {
         return Due::Nothing;
     }
-    let next = w[2];
-    let selection = selection_at(w[68], w[69], w[70], w[71]);
+    let next = w[NEXT];
+    let selection = selection_at(
+        w[SELECTED],
+        w[TICKET_DOMAIN],
+        w[TICKET_TOKEN],
+        w[TICKET_ATTEMPT],
+    );
     if let Selection::Of(ready) = selection {
         return Due::Of(ready, next);
     }
@@ -47,7 +53,7 @@ pub fn pop_due(w: &[u64; 92]) -> Due
         return Due::NoAttempt;
     }
     let ticket = Ticket {
-        domain: w[1],
+        domain: w[DOMAIN],
         token: token,
         attempt: next,
     };
@@ -55,29 +61,29 @@ pub fn pop_due(w: &[u64; 92]) -> Due
 }
 
 // The ticket is selected, its slot empties, issued is set.
-pub fn issue(queue: &mut [u64; 92], ticket: Ticket, next: u64)
+pub fn issue(queue: &mut Words, ticket: Ticket, next: u64)
     requires { ⌜ ticket .token < 64 ⌝ }
     ensures { λ _. ⌜ now (queue .exit) ≡ issuedIn (now (queue .entry)) ticket next ⌝ }
 {
     select(queue, ticket);
-    let at = 3 + ticket.token as usize;
+    let at = SLOTS + ticket.token as usize;
     queue[at] = 0;
-    queue[2] = next;
-    queue[73] = 1;
+    queue[NEXT] = next;
+    queue[ISSUED] = 1;
 }
 
 // The same, with the ticket and its number as the answer.
-fn hand_out(queue: &mut [u64; 92], ticket: Ticket, next: u64, answer: &mut [u64; 5]) -> u64
+fn hand_out(queue: &mut Words, ticket: Ticket, next: u64, answer: &mut Answer) -> u64
     requires { ⌜ ticket .token < 64 ⌝ }
     ensures { λ r. ⌜ exported r (now (answer .exit)) (now (queue .exit)) ≡ handedIn (now (queue .entry)) ticket next ⌝ }
 {
-    let at = 3 + ticket.token as usize;
+    let at = SLOTS + ticket.token as usize;
     *answer = [2, ticket.domain, ticket.token, ticket.attempt, queue[at]];
     issue(queue, ticket, next);
     0
 }
 
-pub fn pop_in(queue: &mut [u64; 92], answer: &mut [u64; 5]) -> u64
+pub fn pop_in(queue: &mut Words, answer: &mut Answer) -> u64
     requires { ⌜ isSound (now queue) ≡ true ⌝ }
     ensures { λ r. ⌜ exported r (now (answer .exit)) (now (queue .exit)) ≡ popOn (now (queue .entry)) ⌝ }
 {

@@ -2,6 +2,7 @@
 use mathlib.Core.Path.{sym, _∙_}
 use borrow.Author.Tests.{not-true, not-false}
 use Rattle.queue_questions.specs.Questions.{isSettledTold}
+use Rattle.queue_words.specs.Layout.{atPhase}
 use Rattle.queue_words.specs.Words.{word, queueOf}
 use Rattle.stage.specs.Phases.{isSettled, phaseAt}
 use Rattle.queue_words.specs.Exported.{isSettledOn}
@@ -16,9 +17,9 @@ gulberzan-is-settled-spec =
     tie.close
     (tie.spec
     (λ c κs. search needs)
-    (λ c. sym (told-unsound (c .before .before .before .args .queue .now) (isSettled (phaseAt (word (c .before .before .before .args .queue .now) 74))) (sym (c .before .before .sound .ensures) ∙ not-true _ (c .before .if1 .taken))))
+    (λ c. sym (told-unsound (c .before .before .before .args .queue .now) (isSettled (phaseAt (word (c .before .before .before .args .queue .now) atPhase))) (sym (c .before .before .sound .ensures) ∙ not-true _ (c .before .if1 .taken))))
     (λ c. search needs)
     (λ c κs. search needs)
     (λ c κs. search needs)
     (λ c κs. search needs)
-    (λ c. rw ((c .before .yes-word .ensures), (c .before .before .settled .ensures), (c .before .before .before .phase-at .ensures)) (sym (told-sound (c .before .before .before .before .before .before .before .args .queue .now) (isSettled (phaseAt (word (c .before .before .before .before .before .before .before .args .queue .now) 74))) (sym (c .before .before .before .before .before .before .sound .ensures) ∙ not-false _ (c .before .before .before .before .before .if1 .left))))))
+    (λ c. rw ((c .before .yes-word .ensures), (c .before .before .settled .ensures), (c .before .before .before .phase-at .ensures)) (sym (told-sound (c .before .before .before .before .before .before .before .args .queue .now) (isSettled (phaseAt (word (c .before .before .before .before .before .before .before .args .queue .now) atPhase))) (sym (c .before .before .before .before .before .before .sound .ensures) ∙ not-false _ (c .before .before .before .before .before .if1 .left))))))

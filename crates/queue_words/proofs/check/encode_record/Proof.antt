@@ -1,4 +1,4 @@
--- The marks, then the ticket; of the reference to an array is known that there are 92 words
+-- The marks, then the ticket; of the reference to an array is known that it has all the words
 use mathlib.Core.Path.{sym, _∙_}
 use borrow.Author.Tests.{eq-eqb, not-true, not-false}
 use Rattle.choice.proofs.Ways.{pass, stop}

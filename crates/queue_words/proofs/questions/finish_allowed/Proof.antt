@@ -3,6 +3,7 @@ use mathlib.Core.Path.{ap}
 use mathlib.Core.List.{List}
 use Prim.Native.Nat.{ℕ}
 use Rattle.queue_questions.specs.Questions.{finishable}
+use Rattle.queue_words.specs.Layout.{atPhase}
 use Rattle.queue_words.specs.Words.{word, selectionIn}
 use Rattle.stage.specs.Phases.{phaseAt}
 use Rattle.queue_words.proofs.QuestionWords.{committed-words}
@@ -29,4 +30,4 @@ finish-allowed-spec =
     (λ c κs. search needs)
     (λ c.
     let a = c .before .before .before .before .before .before .before .before .before .before .before .before .args in
-    rw ((c .may-finish .ensures), (c .before .before .before .before .before .before .selection-at .ensures), (c .before .before .before .before .phase-at .ensures)) (ap (λ (l : List ℕ). finishable (selectionIn (a .w .now)) (phaseAt (word (a .w .now) 74)) (a .target .now) l) (committed-words (a .w .now) (c .before .before .before .before .before .before .before .before .before .before .before .before .pre)))))
+    rw ((c .may-finish .ensures), (c .before .before .before .before .before .before .selection-at .ensures), (c .before .before .before .before .phase-at .ensures)) (ap (λ (l : List ℕ). finishable (selectionIn (a .w .now)) (phaseAt (word (a .w .now) atPhase)) (a .target .now) l) (committed-words (a .w .now) (c .before .before .before .before .before .before .before .before .before .before .before .before .pre)))))

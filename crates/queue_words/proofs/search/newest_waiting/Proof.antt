@@ -6,6 +6,7 @@ use native.Mathlib.Omega.{arith}
 use borrow.Author.Needs.{needs}
 use lib.ListN.{length}
 use Rattle.queue_record.specs.WellFormed.{restZero}
+use Rattle.queue_words.specs.Layout.{wordCount}
 use Rattle.queue_words.specs.Words.{slotsIn}
 use Rattle.queue_words.proofs.OnWords.{sound-length, few-tokens, rest-zero}
 use Rattle.queue_words.proofs.Down.{down-found, down-pass, down-none}
@@ -32,9 +33,9 @@ newest-waiting-spec =
     (λ c. omega (arith, (c .before .loop .inv .0)))
     (λ c.
     let a = c .before .before .before .before .before .args in
-    let l : length (a .w .now) ≡ 92 = sound-length (a .w .now) (c .before .before .before .before .before .pre) in sym (down-found (a .w .now) (c .before .before .before .loop .left) l (c .before .before .before .loop .inv .0) (c .before .before .loop-test .taken) (c .before .before .before .loop .inv .1) (c .if1 .taken)))
+    let l : length (a .w .now) ≡ wordCount = sound-length (a .w .now) (c .before .before .before .before .before .pre) in sym (down-found (a .w .now) (c .before .before .before .loop .left) l (c .before .before .before .loop .inv .0) (c .before .before .loop-test .taken) (c .before .before .before .loop .inv .1) (c .if1 .taken)))
     (λ c. omega arith)
     (λ c.
     let a = c .before .before .before .before .before .args in
-    let l : length (a .w .now) ≡ 92 = sound-length (a .w .now) (c .before .before .before .before .before .pre) in (omega (arith, (c .before .before .before .loop .inv .0)), down-pass (a .w .now) (c .before .before .before .loop .left) l (c .before .before .before .loop .inv .0) (c .before .before .loop-test .taken) (c .before .before .before .loop .inv .1) (c .if1 .left)))
+    let l : length (a .w .now) ≡ wordCount = sound-length (a .w .now) (c .before .before .before .before .before .pre) in (omega (arith, (c .before .before .before .loop .inv .0)), down-pass (a .w .now) (c .before .before .before .loop .left) l (c .before .before .before .loop .inv .0) (c .before .before .loop-test .taken) (c .before .before .before .loop .inv .1) (c .if1 .left)))
     (λ c. sym (down-none (c .before .before .before .args .w .now) (c .before .loop .left) (c .loop-test .left) (c .before .loop .inv .1))))

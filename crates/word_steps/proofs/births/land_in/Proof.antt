@@ -1,6 +1,7 @@
 -- Refused, or born
 use mathlib.Core.Path.{sym, ap, _∙_}
 use Rattle.queue_record.specs.Refusals.{done}
+use Rattle.queue_words.specs.Layout.{atCount}
 use Rattle.queue_words.specs.Words.{word}
 use Rattle.queue_words.specs.Exported.{exported, answerOf}
 use Rattle.word_steps.proofs.BirthLaws.{land-birth}
@@ -20,4 +21,4 @@ land-in-spec =
     land-birth (a .queue .now) ((c .before .before .before .before .before .before) .pre) (a .number) _ (c .before .before .before .before .land-refusal .ensures) .place (c .before .before .before .if1 .left))
     (λ c.
     let a = c .before .before .before .before .before .before .before .args in
-    ap (exported done (answerOf 1 (word (a .queue .now) 67))) (c .grow-landed .ensures) ∙ sym (land-birth (a .queue .now) ((c .before .before .before .before .before .before .before) .pre) (a .number) _ (c .before .before .before .before .before .land-refusal .ensures) .answers (c .before .before .before .before .if1 .left))))
+    ap (exported done (answerOf 1 (word (a .queue .now) atCount))) (c .grow-landed .ensures) ∙ sym (land-birth (a .queue .now) ((c .before .before .before .before .before .before .before) .pre) (a .number) _ (c .before .before .before .before .before .land-refusal .ensures) .answers (c .before .before .before .before .if1 .left))))

@@ -8,6 +8,7 @@ use borrow.Author.Tests.{lt-ltb, le-ltb}
 use Rattle.choice.proofs.Ways.{hit, miss}
 use Rattle.queue_record.specs.Openings.{blank, iteratorOpened}
 use Rattle.queue_record.specs.declared.openings.OpenAnswer.{OpenAnswer}
+use Rattle.queue_words.specs.Layout.{atBindings}
 use Rattle.queue_words.specs.Words.{wordsOf}
 use Rattle.queue_words.specs.Exported.{openNumber}
 use Rattle.queue_words.specs.InPlace.{runPut}
@@ -27,4 +28,4 @@ open-iterator-spec =
     (λ c κs. (ap length (c .before .put-iterator .ensures), omega (arith, (c .before .before .before .if1 .left))))
     (λ c.
     let a = c .before .before .before .before .before .before .args in
-    (sym (ap (λ (r : OpenAnswer). openNumber (r .answer)) (miss _ (le-ltb _ _ (c .before .before .before .before .if1 .left)))), (c .put-run .ensures) ∙ (ap (λ (l : List ℕ). runPut l 75 (a .bindings .now)) (c .before .before .put-iterator .ensures) ∙ (iterator-words (a .domain) (a .first) (a .bindings .now) (c .before .before .before .before .if1 .left) ∙ sym (ap (λ (r : OpenAnswer). wordsOf (r .queue)) (miss _ (le-ltb _ _ (c .before .before .before .before .if1 .left)))))))))
+    (sym (ap (λ (r : OpenAnswer). openNumber (r .answer)) (miss _ (le-ltb _ _ (c .before .before .before .before .if1 .left)))), (c .put-run .ensures) ∙ (ap (λ (l : List ℕ). runPut l atBindings (a .bindings .now)) (c .before .before .put-iterator .ensures) ∙ (iterator-words (a .domain) (a .first) (a .bindings .now) (c .before .before .before .before .if1 .left) ∙ sym (ap (λ (r : OpenAnswer). wordsOf (r .queue)) (miss _ (le-ltb _ _ (c .before .before .before .before .if1 .left)))))))))
