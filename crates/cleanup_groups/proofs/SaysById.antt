@@ -17,7 +17,9 @@ use Rattle.queue_record.specs.declared.record.Selection.the-variants.{Free, Of}
 use Rattle.queue_record.specs.declared.record.Ticket.{Ticket}
 use Rattle.queue_record.specs.declared.record.Queue.{Queue}
 use Rattle.queue_births.specs.Births.{registered, landed}
-use Rattle.queue_steps.specs.Attempts.{noMore, slot, freshAt, poppedBy, popped, isOut, keepsOnDone, completed, retryAllowed, retriedBy, retried}
+use Rattle.queue_decisions.specs.Slots.{noMore}
+use Rattle.queue_decisions.specs.Answers.{isOut, keepsOnDone}
+use Rattle.queue_steps.specs.Attempts.{slot, freshAt, poppedBy, popped, completed, retryAllowed, retriedBy, retried}
 use Rattle.queue_births.specs.declared.births.Registered.{Registered}
 use Rattle.queue_births.specs.declared.births.RegisterAnswer.{RegisterAnswer}
 use Rattle.queue_steps.specs.declared.attempts.Popped.{Popped}

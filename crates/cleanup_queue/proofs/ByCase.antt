@@ -22,14 +22,16 @@ use Rattle.queue_record.specs.declared.record.Selection.{Selection}
 use Rattle.queue_record.specs.declared.record.Selection.the-variants.{Free, Of}
 use Rattle.queue_record.specs.declared.record.Queue.{Queue}
 use Rattle.queue_births.specs.Births.{refusedBirth, grown, born, registered, landed}
-use Rattle.queue_steps.specs.Attempts.{noMore, slot, refusedPop, nothing, handed, freshTicket, freshAt, poppedBy, popped, refusedComplete, isOut, keepsOnDone, answered, completed, refusedRetry, retryAllowed, again, retriedBy, retried}
+use Rattle.queue_decisions.specs.Slots.{noMore}
+use Rattle.queue_decisions.specs.Answers.{isOut, keepsOnDone}
+use Rattle.queue_steps.specs.Attempts.{slot, refusedPop, nothing, handed, freshTicket, freshAt, poppedBy, popped, refusedComplete, answered, completed, refusedRetry, retryAllowed, again, retriedBy, retried}
 use Rattle.queue_births.specs.declared.births.RegisterAnswer.{RegisterAnswer}
 use Rattle.queue_steps.specs.declared.attempts.Popped.the-variants.{Work}
 use Rattle.queue_steps.specs.declared.attempts.PopAnswer.{PopAnswer}
 use Rattle.queue_steps.specs.declared.attempts.Completed.{Completed}
 use Rattle.queue_steps.specs.declared.attempts.CompleteAnswer.{CompleteAnswer}
 use Rattle.queue_steps.specs.declared.attempts.RetryAnswer.{RetryAnswer}
-use Rattle.queue_steps.proofs.Out.{out-issued, out-selected}
+use Rattle.queue_decisions.proofs.AnswerLaws.{out-issued, out-selected}
 
 -- ---- register and land
 module _ (P : RegisterAnswer → Type 0) (q : Queue) (number : ℕ) where

@@ -21,7 +21,8 @@ use Rattle.queue_record.specs.declared.record.Selection.the-variants.{Free, Of}
 use Rattle.queue_record.specs.declared.record.Queue.{Queue}
 use Rattle.queue_record.proofs.Fit.{ready-occupied}
 use Rattle.queue_record.proofs.Last.{newest-none, newest-last}
-use Rattle.queue_steps.specs.Attempts.{noMore, slot, refusedPop, nothing, handed, freshTicket, freshAt, poppedBy, popped}
+use Rattle.queue_decisions.specs.Slots.{noMore}
+use Rattle.queue_steps.specs.Attempts.{slot, refusedPop, nothing, handed, freshTicket, freshAt, poppedBy, popped}
 use Rattle.queue_steps.specs.declared.attempts.Popped.{Popped}
 use Rattle.queue_steps.specs.declared.attempts.Popped.the-variants.{Work}
 use Rattle.queue_steps.specs.declared.attempts.PopAnswer.{PopAnswer}

@@ -25,7 +25,8 @@ use Rattle.queue_record.specs.declared.record.Queue.{Queue}
 use Rattle.queue_record.proofs.Zeros.{full-below, rest-more}
 use Rattle.queue_record.proofs.Fit.{Fit, fit, fits, ticket-born, ticket-domain, ticket-before, ticket-fits, selected-domain, selected-born, selected-before, failed-not-issued, issued-not-failed}
 use Rattle.queue_births.specs.Births.{grown, registered, landed}
-use Rattle.queue_steps.specs.Attempts.{noMore, slot, issuedTo, freshTicket, popped, tookBack, completed, retryAllowed, renewed, again, retried}
+use Rattle.queue_decisions.specs.Slots.{noMore}
+use Rattle.queue_steps.specs.Attempts.{slot, issuedTo, freshTicket, popped, tookBack, completed, retryAllowed, renewed, again, retried}
 use Rattle.queue_births.specs.declared.births.RegisterAnswer.{RegisterAnswer}
 use Rattle.queue_steps.specs.declared.attempts.PopAnswer.{PopAnswer}
 use Rattle.queue_steps.specs.declared.attempts.CompleteAnswer.{CompleteAnswer}

@@ -32,7 +32,8 @@ use Rattle.queue_record.proofs.Zeros.{full-below}
 use Rattle.queue_record.proofs.Fit.{fit, free-no-marks, issued-not-failed, failed-not-issued, issued-empty}
 use Rattle.queue_record.proofs.Waiting.{by-first, none-occupied}
 use Rattle.queue_births.specs.Births.{registered, landed}
-use Rattle.queue_steps.specs.Attempts.{slot, issuedTo, freshTicket, popped, sameTicket, selects, isOut, keepsOnDone, refusedComplete, completed, retryAllowed, renewed, retriedBy, retried}
+use Rattle.queue_decisions.specs.Answers.{sameTicket, selects, isOut, keepsOnDone}
+use Rattle.queue_steps.specs.Attempts.{slot, issuedTo, freshTicket, popped, refusedComplete, completed, retryAllowed, renewed, retriedBy, retried}
 use Rattle.queue_births.specs.declared.births.Registered.the-variants.{Token}
 use Rattle.queue_births.specs.declared.births.RegisterAnswer.{RegisterAnswer}
 use Rattle.queue_steps.specs.declared.attempts.Popped.the-variants.{Work}
@@ -41,7 +42,7 @@ use Rattle.queue_steps.specs.declared.attempts.Completed.the-variants.{Settled}
 use Rattle.queue_steps.specs.declared.attempts.CompleteAnswer.{CompleteAnswer}
 use Rattle.queue_steps.specs.declared.attempts.Retried.the-variants.{Again}
 use Rattle.queue_steps.specs.declared.attempts.RetryAnswer.{RetryAnswer}
-use Rattle.queue_steps.proofs.Out.{same-self}
+use Rattle.queue_decisions.proofs.AnswerLaws.{same-self}
 use Rattle.queue_questions.specs.Questions.{yesOrNo, asked, committed, nothingLeft, isEmptyTold, canRetryTold, canFinishTold}
 use Rattle.queue_questions.specs.declared.questions.Told.the-variants.{Yes}
 use Rattle.queue_stages.specs.Stages.{refusedStage, afterAdmit, admittedBy, admitted, ended, cancelledBy}

@@ -21,7 +21,8 @@ use Rattle.queue_record.proofs.Fit.{fit, ticket-born}
 use Rattle.queue_record.proofs.Waiting.{without-keep, without-append, emptied-slots, stored-slots, appended-slots}
 use Rattle.queue_record.proofs.Last.{newest-last}
 use Rattle.queue_births.specs.Births.{grown, registered, landed}
-use Rattle.queue_steps.specs.Attempts.{slot, issuedTo, freshTicket, popped, keepsOnDone, tookBack, completed, retried}
+use Rattle.queue_decisions.specs.Answers.{keepsOnDone}
+use Rattle.queue_steps.specs.Attempts.{slot, issuedTo, freshTicket, popped, tookBack, completed, retried}
 use Rattle.queue_births.specs.declared.births.Registered.{Registered}
 use Rattle.queue_births.specs.declared.births.Registered.the-variants.{Token}
 use Rattle.queue_steps.specs.declared.attempts.PopAnswer.{PopAnswer}

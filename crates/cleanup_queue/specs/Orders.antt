@@ -17,7 +17,9 @@ use Rattle.queue_record.specs.declared.record.Ticket.{Ticket}
 use Rattle.queue_record.specs.declared.record.Selection.{Selection}
 use Rattle.queue_record.specs.declared.record.Selection.the-variants.{Free, Of}
 use Rattle.queue_record.specs.declared.record.Queue.{Queue}
-use Rattle.queue_steps.specs.Attempts.{noMore, slot, isOut, keepsOnDone, retryAllowed}
+use Rattle.queue_decisions.specs.Slots.{noMore}
+use Rattle.queue_decisions.specs.Answers.{isOut, keepsOnDone}
+use Rattle.queue_steps.specs.Attempts.{slot, retryAllowed}
 use Rattle.queue_questions.specs.declared.questions.Told.{Told}
 use Rattle.cleanup_queue.specs.Answers.{Said, says, toldSays}
 

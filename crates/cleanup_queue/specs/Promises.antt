@@ -12,7 +12,8 @@ use Rattle.queue_record.specs.Waiting.{waiting}
 use Rattle.queue_record.specs.declared.record.Ticket.{Ticket}
 use Rattle.queue_record.specs.declared.record.Selection.the-variants.{Free, Of}
 use Rattle.queue_record.specs.declared.record.Queue.{Queue}
-use Rattle.queue_steps.specs.Attempts.{noMore, slot, freshTicket}
+use Rattle.queue_decisions.specs.Slots.{noMore}
+use Rattle.queue_steps.specs.Attempts.{slot, freshTicket}
 use Rattle.queue_steps.specs.declared.attempts.Popped.{Popped}
 use Rattle.queue_steps.specs.declared.attempts.Popped.the-variants.{Work, Nothing, Refused}
 use Rattle.queue_questions.specs.Questions.{nothingLeft, committed}

@@ -18,7 +18,7 @@ use Rattle.queue_births.specs.declared.births.Registered.{Registered}
 use Rattle.queue_steps.specs.declared.attempts.Popped.{Popped}
 use Rattle.queue_steps.specs.declared.attempts.CompleteAnswer.{CompleteAnswer}
 use Rattle.queue_steps.specs.declared.attempts.Retried.{Retried}
-use Rattle.queue_steps.proofs.Out.{same-parts}
+use Rattle.queue_decisions.proofs.AnswerLaws.{same-parts}
 use Rattle.queue_stages.specs.Stages.{admitted}
 use Rattle.queue_stages.specs.declared.stages.StageAnswer.{StageAnswer}
 use Rattle.cleanup_queue.specs.Runs.{register, land, pop, complete, retry, admit, end, cancel, after}

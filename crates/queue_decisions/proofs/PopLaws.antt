@@ -16,7 +16,7 @@ use Rattle.queue_record.specs.declared.search.Found.{Found}
 use Rattle.queue_record.specs.declared.search.Found.the-variants.{At, Missing}
 use Rattle.queue_record.proofs.Last.{newest-below}
 use Rattle.queue_decisions.specs.Slots.{noMore, slotIn}
-use Rattle.queue_decisions.specs.Pops.{sought, freshTicket, freshDue, dueBy, popDue}
+use Rattle.queue_decisions.specs.Pops.{sought, freshOf, freshDue, dueBy, popDue}
 use Rattle.queue_decisions.specs.declared.pops.Due.{Due}
 
 module _ (slots : List ℕ) (domain next : ℕ) (t : Ticket) (number coming : ℕ) where
@@ -33,7 +33,7 @@ module _ (slots : List ℕ) (domain next : ℕ) (t : Ticket) (number coming : �
   fresh-below Missing m = not-due (λ e. cc)
   fresh-below (At k) m =
       if-by Below (eqb (slotIn slots k) 0) _ _ (λ _. not-due (λ e. cc))
-      (λ _. if-by Below (leb noMore next) _ _ (λ _. not-due (λ e. cc)) (λ _. own-below (freshTicket domain k next) (newest-below slots k m) (slotIn slots k) (next + 1)))
+      (λ _. if-by Below (leb noMore next) _ _ (λ _. not-due (λ e. cc)) (λ _. own-below (freshOf domain k next) (newest-below slots k m) (slotIn slots k) (next + 1)))
 
   module _ (selection : Selection) (own : (s : Ticket) → selection ≡ Of s → s .token < length slots) where
     chosen-below : (s : Selection) → selection ≡ s → Below (dueBy (sought s slots) slots domain next s)

@@ -21,15 +21,15 @@ sought Free slots = newest (occupied 0 slots)
 sought (Of t) slots = Missing
 
 -- a fresh ticket carries next
-abbrev pub freshTicket : ℕ → ℕ → ℕ → Ticket
-freshTicket domain token next = record { domain = domain; token = token; attempt = next }
+abbrev pub freshOf : ℕ → ℕ → ℕ → Ticket
+freshOf domain token next = record { domain = domain; token = token; attempt = next }
 
 -- by the number in its slot; next rises by 1. Order 9, 5
 abbrev pub freshBy : ℕ → ℕ → ℕ → ℕ → Due
 freshBy token number domain next =
     if eqb number 0 then Due.Refused hollow else
     if leb noMore next then Due.Refused noAttempt else
-    Due.Of (freshTicket domain token next) number (next + 1)
+    Due.Of (freshOf domain token next) number (next + 1)
 
 -- none waiting gives Nothing
 abbrev pub freshDue : Found → List ℕ → ℕ → ℕ → Due

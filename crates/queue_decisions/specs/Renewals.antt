@@ -16,18 +16,18 @@ abbrev pub mayRetry : Bool → ℕ → ℕ → Bool
 mayRetry failed number next = failed && (not (eqb number 0) && ltb next noMore)
 
 -- the same, of what is selected
-abbrev pub retryAllowed : Bool → List ℕ → ℕ → Selection → Bool
-retryAllowed failed slots next Free = false
-retryAllowed failed slots next (Of t) = mayRetry failed (slotIn slots (t .token)) next
+abbrev pub allowedBy : Bool → List ℕ → ℕ → Selection → Bool
+allowedBy failed slots next Free = false
+allowedBy failed slots next (Of t) = mayRetry failed (slotIn slots (t .token)) next
 
 -- the ticket takes next
-abbrev pub renewed : Ticket → ℕ → Ticket
-renewed t next = record { domain = t .domain; token = t .token; attempt = next }
+abbrev pub renewedOf : Ticket → ℕ → Ticket
+renewedOf t next = record { domain = t .domain; token = t .token; attempt = next }
 
 -- retry, of what is selected: 8
 abbrev pub dueAgain : Bool → List ℕ → ℕ → Selection → Renewal
 dueAgain failed slots next Free = Renewal.Refused noRetry
-dueAgain failed slots next (Of t) = if not (retryAllowed failed slots next (Of t)) then Renewal.Refused noRetry else Renewal.Of (renewed t next)
+dueAgain failed slots next (Of t) = if not (allowedBy failed slots next (Of t)) then Renewal.Refused noRetry else Renewal.Of (renewedOf t next)
 
 unfoldable pub retryDue : Bool → Selection → List ℕ → ℕ → Renewal
 retryDue failed selection slots next = dueAgain failed slots next selection

@@ -13,6 +13,6 @@ pub use pops::Due;
 pub use pops::pop_due;
 pub use pops::seek;
 pub use renewals::Renewal;
-pub use renewals::may_retry;
+pub use renewals::retry_allowed;
 pub use renewals::retry_due;
 pub use slots::slot_at;

@@ -5,7 +5,7 @@ use queue_record::Selection;
 use queue_record::Ticket;
 use queue_record::refusal::NO_RETRY;
 ghost use mathlib.Core.Path.{_≡_};
-ghost use Rattle.queue_decisions.specs.Renewals.{mayRetry, retryDue};
+ghost use Rattle.queue_decisions.specs.Renewals.{mayRetry, allowedBy, retryDue};
 
 pub enum Renewal {
     Of(Ticket),
@@ -13,7 +13,7 @@ pub enum Renewal {
 }
 
 // Failed, the slot occupied, and an attempt number left.
-pub fn may_retry(failed: bool, number: u64, next: u64) -> bool
+fn may_retry(failed: bool, number: u64, next: u64) -> bool
     ensures { λ r. ⌜ r ≡ mayRetry failed number next ⌝ }
 {
     if !failed {
@@ -25,15 +25,25 @@ pub fn may_retry(failed: bool, number: u64, next: u64) -> bool
     next < NO_MORE
 }
 
+// The same, of what is selected.
+pub fn retry_allowed(failed: bool, selection: Selection, slots: &[u64], next: u64) -> bool
+    ensures { λ r. ⌜ r ≡ allowedBy failed (now (slots .entry)) next selection ⌝ }
+{
+    let Selection::Of(ticket) = selection else {
+        return false;
+    };
+    may_retry(failed, slot_at(slots, ticket.token), next)
+}
+
 pub fn retry_due(failed: bool, selection: Selection, slots: &[u64], next: u64) -> Renewal
     ensures { λ r. ⌜ r ≡ retryDue failed selection (now (slots .entry)) next ⌝ }
 {
+    if !retry_allowed(failed, selection, slots, next) {
+        return Renewal::Refused(NO_RETRY);
+    }
     let Selection::Of(old) = selection else {
         return Renewal::Refused(NO_RETRY);
     };
-    if !may_retry(failed, slot_at(slots, old.token), next) {
-        return Renewal::Refused(NO_RETRY);
-    }
     Renewal::Of(Ticket {
         domain: old.domain,
         token: old.token,

@@ -1,11 +1,11 @@
 // The yes-or-no calls and domain: each refuses a broken record, and changes nothing.
+use queue_decisions::retry_allowed;
 use queue_record::Found;
 use queue_record::Queue;
 use queue_record::Selection;
 use queue_record::newest_place;
 use queue_record::refusal::BROKEN;
 use queue_record::well_formed;
-use queue_steps::may_retry;
 use stage::Phase;
 ghost use mathlib.Core.Path.{_≡_};
 ghost use Rattle.queue_record.specs.Waiting.{occupied, others};
@@ -106,12 +106,8 @@ pub fn can_retry(q: Queue) -> Told
         return Told::Refused(BROKEN);
     }
     let selection = q.selection;
-    let Selection::Of(ticket) = selection else {
-        return Told::No;
-    };
-    let at = ticket.token as usize;
-    let number = q.slots[at];
-    say(may_retry(q.failed, number, q.next))
+    let slots = q.slots;
+    say(retry_allowed(q.failed, selection, &slots, q.next))
 }
 
 // Nothing selected, neither pending nor cancelled, and the target's set is the committed one.

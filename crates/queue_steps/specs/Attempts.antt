@@ -7,12 +7,13 @@ use Rattle.queue_record.specs.Refusals.{broken}
 use Rattle.queue_record.specs.Record.{withNext, withSlot, withSelection, withFailed, withIssued}
 use Rattle.queue_record.specs.WellFormed.{wellFormed}
 use Rattle.queue_record.specs.declared.record.Ticket.{Ticket}
+use Rattle.queue_record.specs.declared.record.Selection.{Selection}
 use Rattle.queue_record.specs.declared.record.Selection.the-variants.{Free, Of}
 use Rattle.queue_record.specs.declared.record.Queue.{Queue}
 use Rattle.queue_decisions.specs.Slots.{slotIn}
-use Rattle.queue_decisions.specs.Pops.{sought, popDue}
+use Rattle.queue_decisions.specs.Pops.{sought, freshOf, popDue}
 use Rattle.queue_decisions.specs.Answers.{completeRefusal}
-use Rattle.queue_decisions.specs.Renewals.{retryDue}
+use Rattle.queue_decisions.specs.Renewals.{allowedBy, renewedOf, retryDue}
 use Rattle.queue_decisions.specs.declared.pops.Due.{Due}
 use Rattle.queue_decisions.specs.declared.renewals.Renewal.{Renewal}
 use Rattle.queue_steps.specs.declared.attempts.Popped.{Popped}
@@ -42,6 +43,10 @@ issuedTo q ticket next = withIssued (withNext (withSlot (withSelection q (Of tic
 
 abbrev pub handed : Queue → Ticket → ℕ → ℕ → PopAnswer
 handed q ticket number next = record { answer = Work ticket number; queue = issuedTo q ticket next }
+
+-- a fresh ticket carries next
+abbrev pub freshTicket : Queue → ℕ → Ticket
+freshTicket q token = freshOf (q .domain) token (q .next)
 
 -- what is due in this record
 abbrev pub dueIn : Queue → Due
@@ -92,13 +97,24 @@ isSettledAnswer (Completed.Refused n given) = false
 abbrev pub refusedRetry : Queue → ℕ → RetryAnswer
 refusedRetry q refusal = record { answer = Retried.Refused refusal; queue = q }
 
+-- whether a retry is allowed, of a queue whose selection is s
+abbrev pub retryAllowed : Queue → Selection → Bool
+retryAllowed q s = allowedBy (q .failed) (q .slots) (q .next) s
+
+-- the ticket takes next
+abbrev pub renewed : Queue → Ticket → Ticket
+renewed q t = renewedOf t (q .next)
+
 -- the renewed ticket is selected, next rises past it, failed clears
 abbrev pub renewedTo : Queue → Ticket → Queue
 renewedTo q t = withFailed (withNext (withSelection q (Of t)) (t .attempt + 1)) false
 
+abbrev pub again : Queue → Ticket → RetryAnswer
+again q t = record { answer = Again t; queue = renewedTo q t }
+
 abbrev pub retriedAs : Queue → Renewal → RetryAnswer
 retriedAs q (Renewal.Refused refusal) = refusedRetry q refusal
-retriedAs q (Renewal.Of t) = record { answer = Again t; queue = renewedTo q t }
+retriedAs q (Renewal.Of t) = again q t
 
 -- the ticket that is due again in this record
 abbrev pub dueAgainIn : Queue → Renewal

@@ -15,7 +15,8 @@ use Rattle.queue_record.specs.declared.record.Selection.{Selection}
 use Rattle.queue_record.specs.declared.record.Selection.the-variants.{Free, Of}
 use Rattle.queue_record.specs.declared.search.Found.the-variants.{At, Missing}
 use Rattle.queue_record.proofs.Last.{newest-none}
-use Rattle.queue_steps.specs.Attempts.{mayRetry, retryAllowed}
+use Rattle.queue_decisions.specs.Renewals.{mayRetry}
+use Rattle.queue_steps.specs.Attempts.{retryAllowed}
 use Rattle.queue_questions.specs.Questions.{yesOrNo, asked, nothingLeft, committed, domainTold}
 use Rattle.queue_questions.specs.declared.questions.Told.{Told}
 use Rattle.queue_questions.specs.declared.questions.DomainTold.{DomainTold}

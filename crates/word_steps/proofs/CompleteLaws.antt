@@ -12,7 +12,8 @@ use Rattle.queue_record.specs.WellFormed.{wellFormed}
 use Rattle.queue_record.specs.declared.record.Ticket.{Ticket}
 use Rattle.queue_record.specs.declared.record.Selection.the-variants.{Free}
 use Rattle.queue_record.specs.declared.record.Queue.{Queue}
-use Rattle.queue_steps.specs.Attempts.{isOut, keepsOnDone, tookBack, answered, completed}
+use Rattle.queue_decisions.specs.Answers.{isOut, keepsOnDone}
+use Rattle.queue_steps.specs.Attempts.{tookBack, answered, completed}
 use Rattle.queue_steps.specs.declared.attempts.CompleteAnswer.{CompleteAnswer}
 use Rattle.queue_steps.proofs.Out.{out-below}
 use Rattle.queue_words.specs.Layout.{atGivenDomain, atGivenToken, atGivenAttempt}

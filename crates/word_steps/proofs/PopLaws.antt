@@ -21,7 +21,8 @@ use Rattle.queue_record.specs.declared.search.Found.{Found}
 use Rattle.queue_record.specs.declared.search.Found.the-variants.{At, Missing}
 use Rattle.queue_record.proofs.Fit.{selected-below, ready-occupied}
 use Rattle.queue_record.proofs.Last.{newest-full, newest-below}
-use Rattle.queue_steps.specs.Attempts.{noMore, freshTicket, issuedTo, freshAt, poppedBy, popped}
+use Rattle.queue_decisions.specs.Slots.{noMore}
+use Rattle.queue_steps.specs.Attempts.{freshTicket, issuedTo, freshAt, poppedBy, popped}
 use Rattle.queue_words.specs.Layout.{atSlots}
 use Rattle.queue_words.specs.Words.{word, queueOf, wordsOf, isSound}
 use Rattle.queue_words.specs.Exported.{Exported, exported, answerOf, refusedOn, popExported, popOn}

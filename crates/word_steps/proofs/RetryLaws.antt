@@ -12,8 +12,9 @@ use Rattle.queue_record.specs.declared.record.Ticket.{Ticket}
 use Rattle.queue_record.specs.declared.record.Selection.{Selection}
 use Rattle.queue_record.specs.declared.record.Selection.the-variants.{Free, Of}
 use Rattle.queue_record.specs.declared.record.Queue.{Queue}
-use Rattle.queue_steps.specs.Attempts.{slot, refusedRetry, mayRetry, retryAllowed, renewed, again, retriedBy, retried}
-use Rattle.queue_steps.proofs.Out.{retry-room}
+use Rattle.queue_decisions.specs.Renewals.{mayRetry}
+use Rattle.queue_steps.specs.Attempts.{slot, refusedRetry, retryAllowed, renewed, again, retriedBy, retried}
+use Rattle.queue_decisions.proofs.RenewalLaws.{retry-room}
 use Rattle.queue_words.specs.Layout.{atNext, atSlots, atFailed}
 use Rattle.queue_words.specs.Words.{word, markAt, ticketOf, selectionIn, queueOf, isSound}
 use Rattle.queue_words.specs.Exported.{exported, refusedOn, retryExported, retryOn}

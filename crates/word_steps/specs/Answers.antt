@@ -9,7 +9,8 @@ use Rattle.queue_record.specs.Refusals.{done, badOutcome, notOut, keptOnDone}
 use Rattle.queue_record.specs.declared.record.Ticket.{Ticket}
 use Rattle.queue_record.specs.declared.record.Selection.the-variants.{Free}
 use Rattle.queue_record.specs.declared.record.Queue.{Queue}
-use Rattle.queue_steps.specs.Attempts.{isOut, keepsOnDone, answered, refusedComplete}
+use Rattle.queue_decisions.specs.Answers.{isOut, keepsOnDone}
+use Rattle.queue_steps.specs.Attempts.{answered, refusedComplete}
 use Rattle.queue_steps.specs.declared.attempts.Completed.the-variants.{Settled}
 use Rattle.queue_steps.specs.declared.attempts.CompleteAnswer.{CompleteAnswer}
 use Rattle.queue_words.specs.Layout.{atSlots, atFailed, atIssued}

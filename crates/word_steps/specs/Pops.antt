@@ -13,7 +13,8 @@ use Rattle.queue_record.specs.declared.record.Selection.the-variants.{Free, Of}
 use Rattle.queue_record.specs.declared.record.Queue.{Queue}
 use Rattle.queue_record.specs.declared.search.Found.{Found}
 use Rattle.queue_record.specs.declared.search.Found.the-variants.{At, Missing}
-use Rattle.queue_steps.specs.Attempts.{noMore, slot, refusedPop, nothing, handed, freshTicket}
+use Rattle.queue_decisions.specs.Slots.{noMore}
+use Rattle.queue_steps.specs.Attempts.{slot, refusedPop, nothing, handed, freshTicket}
 use Rattle.queue_steps.specs.declared.attempts.PopAnswer.{PopAnswer}
 use Rattle.queue_words.specs.Layout.{atNext, atSlots, atIssued}
 use Rattle.queue_words.specs.Words.{word}

@@ -3,7 +3,7 @@ use mathlib.Core.Path.{sym, ap, _∙_}
 use borrow.Author.Tests.{lt-ltb, le-ltb}
 use Rattle.choice.proofs.Ways.{hit, miss, negated}
 use Rattle.queue_record.specs.declared.record.Selection.{Selection}
-use Rattle.queue_steps.specs.Attempts.{isOut}
+use Rattle.queue_decisions.specs.Answers.{isOut}
 use Rattle.queue_words.specs.Layout.{atIssued}
 use Rattle.queue_words.specs.Words.{word, markAt, queueOf}
 use Rattle.word_steps.specs.Answers.{completeRefusal}
