@@ -1,10 +1,14 @@
 // Pop and complete by value, by way of a queue that is lent: who calls these needs no proof by hand.
+mod turns;
+
 use queue_lent::complete_lent;
 use queue_lent::pop_lent;
 use queue_record::Queue;
 use queue_record::Ticket;
 use queue_steps::CompleteAnswer;
 use queue_steps::PopAnswer;
+pub use turns::TurnAnswer;
+pub use turns::turn;
 ghost use mathlib.Core.Path.{_≡_};
 ghost use Rattle.queue_steps.specs.Attempts.{popped, completed};
 
