@@ -10,7 +10,7 @@ use crate::script::Call;
 use cleanup_queue::Kind;
 use cleanup_queue::Queue;
 use cleanup_queue::Ticket;
-use log_calls::RegisterRecorded;
+use log_births::RegisterRecorded;
 use log_stages::StageRecorded;
 
 fn born(a: RegisterRecorded) -> Left {
@@ -21,9 +21,9 @@ fn born(a: RegisterRecorded) -> Left {
 
 fn birth(q: Queue, used: u64, call: Call, log: &mut [u64]) -> Left {
     if call.number == 30 {
-        return born(log_calls::register_recorded(q, call.a, log, used));
+        return born(log_births::register_recorded(q, call.a, log, used));
     }
-    born(log_calls::land_recorded(q, call.a, log, used))
+    born(log_births::land_recorded(q, call.a, log, used))
 }
 
 fn pop(q: Queue, used: u64, log: &mut [u64]) -> Left {

@@ -26,7 +26,7 @@ use Rattle.queue_stages.specs.Stages.{admitted, ended, cancelledBy}
 use Rattle.cleanup_queue.specs.Runs.{Call, register, land, pop, complete, retry, admit, end, cancel}
 use Rattle.log_rows.specs.Rows.{rows, written, flats}
 use Rattle.log_rows.specs.Appending.{rowsFit, hasRoom, appendedUsed, appended}
-use Rattle.log_calls.specs.Births.{registerRecorded, registerLogged, landRecorded, landLogged}
+use Rattle.log_births.specs.Births.{registerRecorded, registerLogged, landRecorded, landLogged}
 use Rattle.log_attempts.specs.Attempts.{popRecorded, popLogged, completeRecorded, completeLogged, retryRecorded, retryLogged}
 use Rattle.log_stages.specs.Stages.{admitRecorded, admitLogged, endRecorded, endLogged, cancelRecorded, cancelLogged}
 use Rattle.history.specs.Histories.{Bench, bench, called, numberOf, Start, History, opens, calls, Made, none, one, rowsOf, openedQueue}

@@ -16,16 +16,16 @@ use Rattle.queue_stages.specs.declared.stages.Cancelled.{Cancelled}
 use Rattle.cleanup_queue.specs.Answers.{registeredSays, poppedSays, completedSays, retriedSays, toldSays, cancelledSays}
 use Rattle.cleanup_queue.specs.Runs.{Call, register, land, pop, complete, retry, admit, end, cancel}
 use Rattle.log_rows.specs.Rows.{rowOf}
-use Rattle.log_calls.specs.Births.{birthSaid, isBirth, birthRow, registerRecorded, registerLogged, landRecorded, landLogged}
+use Rattle.log_births.specs.Births.{birthSaid, isBirth, birthRow, registerRecorded, registerLogged, landRecorded, landLogged}
 use Rattle.log_attempts.specs.Attempts.{popSaid, isWork, popRow, popRecorded, popLogged, completeSaid, completeRecorded, completeLogged, retrySaid, isRenewed, retryRow, retryRecorded, retryLogged}
 use Rattle.log_stages.specs.Stages.{moved, stageSaid, admitRecorded, admitLogged, endRecorded, endLogged, cancelSaid, cancelRecorded, cancelLogged}
-use Rattle.log_calls.specs.declared.births.RegisterRecorded.{RegisterRecorded}
+use Rattle.log_births.specs.declared.births.RegisterRecorded.{RegisterRecorded}
 use Rattle.log_attempts.specs.declared.attempts.PopRecorded.{PopRecorded}
 use Rattle.log_attempts.specs.declared.attempts.CompleteRecorded.{CompleteRecorded}
 use Rattle.log_attempts.specs.declared.attempts.RetryRecorded.{RetryRecorded}
 use Rattle.log_stages.specs.declared.stages.StageRecorded.{StageRecorded}
 use Rattle.log_stages.specs.declared.stages.CancelRecorded.{CancelRecorded}
-use Rattle.log_calls.proofs.Untouched.{refused-untouched}
+use Rattle.log_births.proofs.Untouched.{refused-untouched}
 use Rattle.cleanup_log.proofs.RecordedNumbers.{birth-done, work-done, settled-done, renewed-done, admitted-done, ended-done, cancelledBy-done}
 use Rattle.history.specs.Histories.{Bench, bench, called, numberOf}
 use Rattle.history.proofs.Steps.{benches}

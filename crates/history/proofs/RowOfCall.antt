@@ -25,7 +25,7 @@ use Rattle.cleanup_queue.specs.Runs.{register, land, pop, complete, retry, admi
 use Rattle.cleanup_queue.proofs.ByCase.{complete-by}
 use Rattle.log_rows.specs.Rows.{rowOf}
 use Rattle.log_rows.specs.declared.Row.{Row}
-use Rattle.log_calls.specs.Births.{isBirth, birthRow}
+use Rattle.log_births.specs.Births.{isBirth, birthRow}
 use Rattle.log_attempts.specs.Attempts.{isWork, popRow, isRenewed, retryRow}
 use Rattle.log_stages.specs.Stages.{moved}
 use Rattle.log_replay.specs.Replay.{sameRow, stepped, birthFits, popFits, rowTicket, retryFits, replayedStage, replayed}

@@ -22,10 +22,10 @@ use Rattle.cleanup_queue.specs.Runs.{Call, register, land, pop, complete, retry
 use Rattle.log_rows.specs.Rows.{rowOf}
 use Rattle.log_rows.specs.Appending.{appended}
 use Rattle.log_rows.specs.declared.Row.{Row}
-use Rattle.log_calls.specs.Births.{birthSaid, isBirth, birthRow, registerRecorded, registerLogged, landRecorded, landLogged}
+use Rattle.log_births.specs.Births.{birthSaid, isBirth, birthRow, registerRecorded, registerLogged, landRecorded, landLogged}
 use Rattle.log_attempts.specs.Attempts.{popSaid, isWork, popRow, popRecorded, popLogged, completeSaid, completeRecorded, completeLogged, retrySaid, isRenewed, retryRow, retryRecorded, retryLogged}
 use Rattle.log_stages.specs.Stages.{moved, stageSaid, admitRecorded, admitLogged, endRecorded, endLogged, cancelSaid, cancelRecorded, cancelLogged}
-use Rattle.log_calls.specs.declared.births.RegisterRecorded.{RegisterRecorded}
+use Rattle.log_births.specs.declared.births.RegisterRecorded.{RegisterRecorded}
 use Rattle.log_attempts.specs.declared.attempts.PopRecorded.{PopRecorded}
 use Rattle.log_attempts.specs.declared.attempts.CompleteRecorded.{CompleteRecorded}
 use Rattle.log_attempts.specs.declared.attempts.RetryRecorded.{RetryRecorded}

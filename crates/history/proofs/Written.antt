@@ -11,7 +11,7 @@ use Rattle.queue_record.specs.declared.record.Queue.{Queue}
 use Rattle.log_rows.specs.Appending.{rowsFit, hasRoom, appendedUsed, appended}
 use Rattle.log_rows.specs.declared.Row.{Row}
 use Rattle.log_rows.specs.declared.Appended.the-variants.{Full, Used}
-use Rattle.log_calls.specs.Recording.{putBy, recordedBy, loggedBy}
+use Rattle.log_births.specs.Recording.{putBy, recordedBy, loggedBy}
 
 -- what is known where a row went in
 pub record Put (log : List ℕ) (used : ℕ) : Type 0 where
