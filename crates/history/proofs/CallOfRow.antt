@@ -1,14 +1,14 @@
 -- A row that the reader replays is written by some recorded call, where there is room
 use Prim.Native.Nat.{ℕ, zero, suc, _+_}
 use mathlib.Core.Path.{_≡_, refl, sym, ap, _∙_}
-use mathlib.Core.Bool.{true, _&&_}
+use mathlib.Core.Bool.{Bool, true, false, not, _&&_}
 use mathlib.Core.List.{[], _∷_}
-use native.Mathlib.Omega.{arith}
-use Rattle.stage.specs.Phases.{next, differs}
+use Rattle.stage.specs.Phases.{next, differs, isPending}
+use Rattle.stage.specs.declared.phases.Phase.{Phase}
 use Rattle.stage.specs.declared.phases.Event.{Event}
 use Rattle.stage.specs.declared.phases.Event.the-variants.{Admit, End, Cancel}
-use Rattle.choice.proofs.Ways.{pass, and-left, and-right, clash}
-use Rattle.queue_record.specs.Refusals.{done, broken, logFull}
+use Rattle.choice.proofs.Ways.{miss, pass, and-left, and-right, clash}
+use Rattle.queue_record.specs.Refusals.{done}
 use Rattle.queue_record.specs.WellFormed.{wellFormed}
 use Rattle.queue_record.specs.declared.record.Queue.{Queue}
 use Rattle.queue_births.specs.Births.{registered, landed}
@@ -17,34 +17,29 @@ use Rattle.queue_births.specs.declared.births.Registered.{Registered}
 use Rattle.queue_steps.specs.declared.attempts.Popped.{Popped}
 use Rattle.queue_steps.specs.declared.attempts.Completed.{Completed}
 use Rattle.queue_steps.specs.declared.attempts.Retried.{Retried}
-use Rattle.queue_questions.specs.declared.questions.Told.{Told}
+use Rattle.queue_questions.specs.Questions.{yesOrNo}
 use Rattle.queue_stages.specs.Stages.{admitted, ended, cancelledBy}
-use Rattle.queue_stages.specs.declared.stages.Cancelled.{Cancelled}
-use Rattle.cleanup_queue.specs.Answers.{registeredSays, poppedSays, completedSays, retriedSays, toldSays, cancelledSays}
-use Rattle.cleanup_queue.specs.Orders.{firstDue, brokenOnly}
-use Rattle.cleanup_queue.proofs.Numbers.{admit-number, end-number, cancel-number}
+use Rattle.queue_stages.specs.declared.stages.StageAnswer.{StageAnswer}
+use Rattle.queue_stages.specs.declared.stages.CancelAnswer.{CancelAnswer}
 use Rattle.cleanup_queue.specs.Runs.{Call, register, land, pop, complete, retry, admit, end, cancel, after}
-use Rattle.log_rows.specs.Rows.{rowOf}
-use Rattle.log_rows.specs.Appending.{appended}
+use Rattle.log_rows.specs.Rows.{rowOf, flat, written}
+use Rattle.log_rows.specs.Kinds.{registerKind, landKind, admitKind, endKind, cancelKind}
 use Rattle.log_rows.specs.declared.Row.{Row}
-use Rattle.log_births.specs.Births.{birthSaid, isBirth, birthRow, registerRecorded, registerLogged, landRecorded, landLogged}
-use Rattle.log_attempts.specs.Attempts.{popSaid, isWork, popRow, popRecorded, popLogged, completeSaid, completeRecorded, completeLogged, retrySaid, isRenewed, retryRow, retryRecorded, retryLogged}
-use Rattle.log_stages.specs.Stages.{moved, stageSaid, admitRecorded, admitLogged, endRecorded, endLogged, cancelSaid, cancelRecorded, cancelLogged}
-use Rattle.log_births.specs.declared.births.RegisterRecorded.{RegisterRecorded}
-use Rattle.log_attempts.specs.declared.attempts.PopRecorded.{PopRecorded}
-use Rattle.log_attempts.specs.declared.attempts.CompleteRecorded.{CompleteRecorded}
-use Rattle.log_attempts.specs.declared.attempts.RetryRecorded.{RetryRecorded}
-use Rattle.log_stages.specs.declared.stages.StageRecorded.{StageRecorded}
-use Rattle.log_stages.specs.declared.stages.CancelRecorded.{CancelRecorded}
+use Rattle.log_entries.specs.Made.{stageRow}
+use Rattle.log_entries.specs.Noting.{entry}
+use Rattle.log_entries.specs.declared.noting.Entry.{Entry}
+use Rattle.log_entries.proofs.NoteLaws.{Put}
+use Rattle.log_births.specs.Births.{birthEntry}
+use Rattle.log_attempts.specs.Attempts.{popEntry, completeEntry, retryEntry}
+use Rattle.log_stages.specs.Stages.{stageEntry, cancelEntry}
+use Rattle.cleanup_log.specs.Entries.{entryOf}
 use Rattle.log_replay.specs.Replay.{sameRow, birthFits, popFits, rowTicket, retryFits, replayedBirth, replayedPop, replayedComplete, replayedRetry, replayedStage, replayed}
 use Rattle.log_replay.specs.declared.replay.Replayed.{Replayed}
 use Rattle.log_replay.proofs.ByKind.{Columns, columns, at0, at1, at2, at3, at4, at5, at6, at7, past7}
-use Rattle.log_replay.proofs.RowsKeep.{admit-moves, end-moves, cancel-moves}
 use Rattle.log_language.specs.Readings.{every}
 use Rattle.history.specs.Histories.{Bench, bench, called, numberOf}
 use Rattle.history.specs.Fits.{isWord, fits, rowFits}
-use Rattle.history.proofs.Written.{Put, goes}
-use Rattle.history.proofs.Steps.{benches}
+use Rattle.history.proofs.Written.{goes}
 
 -- rows that agree in every column are one
 one-row : (a b : Row) → sameRow a b ≡ true → a ≡ b
@@ -60,7 +55,7 @@ one-row a b h =
 pub record Writes (b : Bench) (r : Row) : Type 0 where
   pub call : Call
   pub fine : numberOf b call ≡ done
-  pub left : called b call ≡ bench (after (b .queue) call) (b .used + 1) (appended (b .log) (b .used) r)
+  pub left : called b call ≡ bench (after (b .queue) call) (b .used + 1) (written (b .log) (b .used) (flat r))
   -- of 64-bit words it has 64-bit inputs
   pub words : isWord (b .queue .domain) ≡ true → rowFits r ≡ true → fits call ≡ true
 
@@ -77,84 +72,64 @@ module _ (b : Bench) (w : wellFormed (b .queue) ≡ true) (p : Put (b .log) (b .
   abbrev q : Queue
   q = b .queue
 
+  -- a call whose entry is e writes e's row
+  writes-by : (c : Call) (e : Entry) → entryOf q c ≡ e → e .refusal ≡ 0 → e .changed ≡ true → e .row ≡ r → (isWord (q .domain) ≡ true → rowFits r ≡ true → fits c ≡ true) → Writes b r
+  writes-by c e is z h row words =
+      let g = goes b c p (ap (λ (x : Entry). x .refusal) is ∙ z) (ap (λ (x : Entry). x .changed) is ∙ h) in
+      record { call = c; words = words; fine = g .0; left = g .1 ∙ ap (λ (x : Row). bench (after q c) (b .used + 1) (written (b .log) (b .used) (flat x))) (ap (λ (x : Entry). x .row) is ∙ row) }
+
   writes-register : (n t : ℕ) → registered q n .answer ≡ Registered.Token t → rowOf 0 t 0 0 n ≡ r → Writes b r
-  unfolding registerRecorded registerLogged
-  writes-register n t a e =
-      let g = goes birthSaid (λ (x : RegisterRecorded). x .queue) (λ (x : RegisterRecorded). x .used) (λ (x : RegisterRecorded). registeredSays (x .answer) .number) (λ x y z. refl) (λ x y z. refl) (Registered.Refused logFull n) (Registered.Refused broken n) (registered q n .answer) q (registered q n .queue) (b .used) (b .log) (birthRow 0 n (registered q n .answer)) (isBirth (registered q n .answer)) (λ k. omega arith) (λ k. omega arith) p (ap isBirth a) in
-      record { call = register n; words = λ _ h. number-fits 0 n t r e h; fine = ap (λ (x : RegisterRecorded). registeredSays (x .answer) .number) (g .0) ∙ ap (λ (x : Registered). registeredSays x .number) a; left = benches (ap (λ (x : RegisterRecorded). x .queue) (g .0)) (ap (λ (x : RegisterRecorded). x .used) (g .0)) (g .1 ∙ ap (appended (b .log) (b .used)) (ap (birthRow 0 n) a ∙ e)) }
+  writes-register n t a e = writes-by (register n) _ (ap (birthEntry registerKind n) a) refl refl e (λ _ h. number-fits 0 n t r e h)
 
   writes-land : (n t : ℕ) → landed q n .answer ≡ Registered.Token t → rowOf 1 t 0 0 n ≡ r → Writes b r
-  unfolding landRecorded landLogged
-  writes-land n t a e =
-      let g = goes birthSaid (λ (x : RegisterRecorded). x .queue) (λ (x : RegisterRecorded). x .used) (λ (x : RegisterRecorded). registeredSays (x .answer) .number) (λ x y z. refl) (λ x y z. refl) (Registered.Refused logFull n) (Registered.Refused broken n) (landed q n .answer) q (landed q n .queue) (b .used) (b .log) (birthRow 1 n (landed q n .answer)) (isBirth (landed q n .answer)) (λ k. omega arith) (λ k. omega arith) p (ap isBirth a) in
-      record { call = land n; words = λ _ h. number-fits 1 n t r e h; fine = ap (λ (x : RegisterRecorded). registeredSays (x .answer) .number) (g .0) ∙ ap (λ (x : Registered). registeredSays x .number) a; left = benches (ap (λ (x : RegisterRecorded). x .queue) (g .0)) (ap (λ (x : RegisterRecorded). x .used) (g .0)) (g .1 ∙ ap (appended (b .log) (b .used)) (ap (birthRow 1 n) a ∙ e)) }
+  writes-land n t a e = writes-by (land n) _ (ap (birthEntry landKind n) a) refl refl e (λ _ h. number-fits 1 n t r e h)
 
   writes-pop : popFits (popped q .answer) r ≡ true → Writes b r
-  unfolding popRecorded popLogged
   writes-pop h = go (popped q .answer) refl h
     where
       go : (a : Popped) → popped q .answer ≡ a → popFits a r ≡ true → Writes b r
-      go (Popped.Work t n) e k =
-          let g = goes popSaid (λ (x : PopRecorded). x .queue) (λ (x : PopRecorded). x .used) (λ (x : PopRecorded). poppedSays (x .answer) .number) (λ x y z. refl) (λ x y z. refl) (Popped.Refused logFull) (Popped.Refused broken) (popped q .answer) q (popped q .queue) (b .used) (b .log) (popRow (popped q .answer)) (isWork (popped q .answer)) (λ k. omega arith) (λ k. omega arith) p (ap isWork e) in
-          record { call = pop; words = λ _ _. refl; fine = ap (λ (x : PopRecorded). poppedSays (x .answer) .number) (g .0) ∙ ap (λ (x : Popped). poppedSays x .number) e; left = benches (ap (λ (x : PopRecorded). x .queue) (g .0)) (ap (λ (x : PopRecorded). x .used) (g .0)) (g .1 ∙ ap (appended (b .log) (b .used)) (ap popRow e ∙ one-row (rowOf 2 (t .token) (t .attempt) 0 0) r k)) }
+      go (Popped.Work t n) e k = writes-by pop _ (ap popEntry e) refl refl (one-row (rowOf 2 (t .token) (t .attempt) 0 0) r k) (λ _ _. refl)
       go Popped.Nothing e k = clash k refl
       go (Popped.Refused n) e k = clash k refl
 
   writes-complete : r .kind ≡ 3 → isSettledAnswer (completed q (rowTicket q r) (r .outcome) (r .number) .answer) ≡ true → Writes b r
-  unfolding completeRecorded completeLogged
   writes-complete kind h = go (completed q (rowTicket q r) (r .outcome) (r .number) .answer) refl h
     where
       go : (a : Completed) → completed q (rowTicket q r) (r .outcome) (r .number) .answer ≡ a → isSettledAnswer a ≡ true → Writes b r
-      go Completed.Settled e k =
-          let g = goes completeSaid (λ (x : CompleteRecorded). x .queue) (λ (x : CompleteRecorded). x .used) (λ (x : CompleteRecorded). completedSays (x .answer) .number) (λ x y z. refl) (λ x y z. refl) (Completed.Refused logFull (r .number)) (Completed.Refused broken (r .number)) (completed q (rowTicket q r) (r .outcome) (r .number) .answer) q (completed q (rowTicket q r) (r .outcome) (r .number) .queue) (b .used) (b .log) (rowOf 3 (r .token) (r .attempt) (r .outcome) (r .number)) (isSettledAnswer (completed q (rowTicket q r) (r .outcome) (r .number) .answer)) (λ k. omega arith) (λ k. omega arith) p (ap isSettledAnswer e) in
-          record { call = complete (rowTicket q r) (r .outcome) (r .number); words = λ d f. pass _ d ∙ and-right (isWord (r .kind)) _ f; fine = ap (λ (x : CompleteRecorded). completedSays (x .answer) .number) (g .0) ∙ ap (λ (x : Completed). completedSays x .number) e; left = benches (ap (λ (x : CompleteRecorded). x .queue) (g .0)) (ap (λ (x : CompleteRecorded). x .used) (g .0)) (g .1 ∙ ap (λ (x : ℕ). appended (b .log) (b .used) (rowOf x (r .token) (r .attempt) (r .outcome) (r .number))) (sym kind)) }
+      go Completed.Settled e k = writes-by (complete (rowTicket q r) (r .outcome) (r .number)) _ (ap (completeEntry (rowTicket q r) (r .outcome) (r .number)) e) refl refl (ap (λ (x : ℕ). rowOf x (r .token) (r .attempt) (r .outcome) (r .number)) (sym kind)) (λ d f. pass _ d ∙ and-right (isWord (r .kind)) _ f)
       go (Completed.Refused m n) e k = clash k refl
 
   writes-retry : retryFits (retried q .answer) r ≡ true → Writes b r
-  unfolding retryRecorded retryLogged
   writes-retry h = go (retried q .answer) refl h
     where
       go : (a : Retried) → retried q .answer ≡ a → retryFits a r ≡ true → Writes b r
-      go (Retried.Again t) e k =
-          let g = goes retrySaid (λ (x : RetryRecorded). x .queue) (λ (x : RetryRecorded). x .used) (λ (x : RetryRecorded). retriedSays (x .answer) .number) (λ x y z. refl) (λ x y z. refl) (Retried.Refused logFull) (Retried.Refused broken) (retried q .answer) q (retried q .queue) (b .used) (b .log) (retryRow (retried q .answer)) (isRenewed (retried q .answer)) (λ k. omega arith) (λ k. omega arith) p (ap isRenewed e) in
-          record { call = retry; words = λ _ _. refl; fine = ap (λ (x : RetryRecorded). retriedSays (x .answer) .number) (g .0) ∙ ap (λ (x : Retried). retriedSays x .number) e; left = benches (ap (λ (x : RetryRecorded). x .queue) (g .0)) (ap (λ (x : RetryRecorded). x .used) (g .0)) (g .1 ∙ ap (appended (b .log) (b .used)) (ap retryRow e ∙ one-row (rowOf 4 (t .token) (t .attempt) 0 0) r k)) }
+      go (Retried.Again t) e k = writes-by retry _ (ap retryEntry e) refl refl (one-row (rowOf 4 (t .token) (t .attempt) 0 0) r k) (λ _ _. refl)
       go (Retried.Refused n) e k = clash k refl
 
-  -- a well-formed record's stage calls are answered
-  fine-stage : firstDue (brokenOnly q) ≡ 0
-  fine-stage = miss′
-    where
-      miss′ : firstDue (brokenOnly q) ≡ 0
-      miss′ = rw w
+  -- a well-formed record's stage calls are answered, so their entries say whether the stage moves
+  told-entry : (kind : ℕ) (was is : Phase) (b : Bool) → stageEntry kind was is (yesOrNo b) ≡ entry done (differs was is) (stageRow kind)
+  told-entry kind was is true = refl
+  told-entry kind was is false = refl
+
+  admit-entry : entryOf q (admit true) ≡ entry done (differs (q .phase) (next (q .phase) Admit)) (stageRow admitKind)
+  unfolding admitted
+  admit-entry = ap (λ (x : StageAnswer). stageEntry admitKind (q .phase) (x .queue .phase) (x .answer)) (miss _ (ap not w)) ∙ told-entry admitKind (q .phase) (next (q .phase) Admit) (isPending (next (q .phase) Admit))
+
+  end-entry : entryOf q end ≡ entry done (differs (q .phase) (next (q .phase) End)) (stageRow endKind)
+  unfolding ended
+  end-entry = ap (λ (x : StageAnswer). stageEntry endKind (q .phase) (x .queue .phase) (x .answer)) (miss _ (ap not w)) ∙ told-entry endKind (q .phase) (next (q .phase) End) (isPending (q .phase))
+
+  cancel-entry : entryOf q cancel ≡ entry done (differs (q .phase) (next (q .phase) Cancel)) (stageRow cancelKind)
+  unfolding cancelledBy
+  cancel-entry = ap (λ (x : CancelAnswer). cancelEntry (q .phase) (x .queue .phase) (x .answer)) (miss _ (ap not w))
 
   moves-of : (e : Event) (k : ℕ) → r .kind ≡ k → replayedStage q e r .fits ≡ true → (differs (q .phase) (next (q .phase) e) ≡ true) × (rowOf k 0 0 0 0 ≡ r)
   moves-of e k kind h =
       let m = and-right (wellFormed q) (differs (q .phase) (next (q .phase) e) && sameRow (rowOf (r .kind) 0 0 0 0) r) h in
       (and-left (differs (q .phase) (next (q .phase) e)) _ m, ap (λ (x : ℕ). rowOf x 0 0 0 0) (sym kind) ∙ one-row (rowOf (r .kind) 0 0 0 0) r (and-right (differs (q .phase) (next (q .phase) e)) _ m))
 
-  writes-admit : r .kind ≡ 5 → replayedStage q Admit r .fits ≡ true → Writes b r
-  unfolding admitRecorded admitLogged
-  writes-admit kind h =
-      let k = moves-of Admit 5 kind h in
-      let c : moved q (admitted q true .queue) ≡ true = ap (λ (x : Queue). differs (q .phase) (x .phase)) (admit-moves q w) ∙ k .0 in
-      let g = goes stageSaid (λ (x : StageRecorded). x .queue) (λ (x : StageRecorded). x .used) (λ (x : StageRecorded). toldSays (x .answer) .number) (λ x y z. refl) (λ x y z. refl) (Told.Refused logFull) (Told.Refused broken) (admitted q true .answer) q (admitted q true .queue) (b .used) (b .log) (rowOf 5 0 0 0 0) (moved q (admitted q true .queue)) (λ k. omega arith) (λ k. omega arith) p c in
-      record { call = admit true; words = λ _ _. refl; fine = ap (λ (x : StageRecorded). toldSays (x .answer) .number) (g .0) ∙ (admit-number q true ∙ fine-stage); left = benches (ap (λ (x : StageRecorded). x .queue) (g .0)) (ap (λ (x : StageRecorded). x .used) (g .0)) (g .1 ∙ ap (appended (b .log) (b .used)) (k .1)) }
-
-  writes-end : r .kind ≡ 6 → replayedStage q End r .fits ≡ true → Writes b r
-  unfolding endRecorded endLogged
-  writes-end kind h =
-      let k = moves-of End 6 kind h in
-      let c : moved q (ended q .queue) ≡ true = ap (λ (x : Queue). differs (q .phase) (x .phase)) (end-moves q w) ∙ k .0 in
-      let g = goes stageSaid (λ (x : StageRecorded). x .queue) (λ (x : StageRecorded). x .used) (λ (x : StageRecorded). toldSays (x .answer) .number) (λ x y z. refl) (λ x y z. refl) (Told.Refused logFull) (Told.Refused broken) (ended q .answer) q (ended q .queue) (b .used) (b .log) (rowOf 6 0 0 0 0) (moved q (ended q .queue)) (λ k. omega arith) (λ k. omega arith) p c in
-      record { call = end; words = λ _ _. refl; fine = ap (λ (x : StageRecorded). toldSays (x .answer) .number) (g .0) ∙ (end-number q ∙ fine-stage); left = benches (ap (λ (x : StageRecorded). x .queue) (g .0)) (ap (λ (x : StageRecorded). x .used) (g .0)) (g .1 ∙ ap (appended (b .log) (b .used)) (k .1)) }
-
-  writes-cancel : r .kind ≡ 7 → replayedStage q Cancel r .fits ≡ true → Writes b r
-  unfolding cancelRecorded cancelLogged
-  writes-cancel kind h =
-      let k = moves-of Cancel 7 kind h in
-      let c : moved q (cancelledBy q .queue) ≡ true = ap (λ (x : Queue). differs (q .phase) (x .phase)) (cancel-moves q w) ∙ k .0 in
-      let g = goes cancelSaid (λ (x : CancelRecorded). x .queue) (λ (x : CancelRecorded). x .used) (λ (x : CancelRecorded). cancelledSays (x .answer) .number) (λ x y z. refl) (λ x y z. refl) (Cancelled.Refused logFull) (Cancelled.Refused broken) (cancelledBy q .answer) q (cancelledBy q .queue) (b .used) (b .log) (rowOf 7 0 0 0 0) (moved q (cancelledBy q .queue)) (λ k. omega arith) (λ k. omega arith) p c in
-      record { call = cancel; words = λ _ _. refl; fine = ap (λ (x : CancelRecorded). cancelledSays (x .answer) .number) (g .0) ∙ (cancel-number q ∙ fine-stage); left = benches (ap (λ (x : CancelRecorded). x .queue) (g .0)) (ap (λ (x : CancelRecorded). x .used) (g .0)) (g .1 ∙ ap (appended (b .log) (b .used)) (k .1)) }
+  writes-stage : (c : Call) (e : Event) (k : ℕ) → entryOf q c ≡ entry done (differs (q .phase) (next (q .phase) e)) (stageRow k) → fits c ≡ true → r .kind ≡ k → replayedStage q e r .fits ≡ true → Writes b r
+  writes-stage c e k is words kind h = let m = moves-of e k kind h in writes-by c _ is refl (m .0) (m .1) (λ _ _. words)
 
   birth-token : (k : ℕ) (a : Registered) → r .kind ≡ k → birthFits a r ≡ true → (t : ℕ) × (a ≡ Registered.Token t) × (rowOf k t 0 0 (r .number) ≡ r)
   birth-token k (Registered.Token t) kind h = (t, refl, ap (λ (x : ℕ). rowOf x t 0 0 (r .number)) (sym kind) ∙ one-row (rowOf (r .kind) t 0 0 (r .number)) r h)
@@ -172,7 +147,7 @@ module _ (b : Bench) (w : wellFormed (b .queue) ≡ true) (p : Put (b .log) (b .
       go (suc (suc zero)) e = writes-pop (by (replayedPop q r) (at2 q r e))
       go (suc (suc (suc zero))) e = writes-complete e (by (replayedComplete q r) (at3 q r e))
       go (suc (suc (suc (suc zero)))) e = writes-retry (by (replayedRetry q r) (at4 q r e))
-      go (suc (suc (suc (suc (suc zero))))) e = writes-admit e (by (replayedStage q Admit r) (at5 q r e))
-      go (suc (suc (suc (suc (suc (suc zero)))))) e = writes-end e (by (replayedStage q End r) (at6 q r e))
-      go (suc (suc (suc (suc (suc (suc (suc zero))))))) e = writes-cancel e (by (replayedStage q Cancel r) (at7 q r e))
+      go (suc (suc (suc (suc (suc zero))))) e = writes-stage (admit true) Admit 5 admit-entry refl e (by (replayedStage q Admit r) (at5 q r e))
+      go (suc (suc (suc (suc (suc (suc zero)))))) e = writes-stage end End 6 end-entry refl e (by (replayedStage q End r) (at6 q r e))
+      go (suc (suc (suc (suc (suc (suc (suc zero))))))) e = writes-stage cancel Cancel 7 cancel-entry refl e (by (replayedStage q Cancel r) (at7 q r e))
       go (suc (suc (suc (suc (suc (suc (suc (suc n)))))))) e = clash h (ap (λ (y : Replayed). y .fits) (past7 q r n e))

@@ -25,10 +25,11 @@ use Rattle.queue_steps.specs.Attempts.{popped, completed, retried}
 use Rattle.queue_stages.specs.Stages.{admitted, ended, cancelledBy}
 use Rattle.cleanup_queue.specs.Runs.{Call, register, land, pop, complete, retry, admit, end, cancel}
 use Rattle.log_rows.specs.Rows.{rows, written, flats}
-use Rattle.log_rows.specs.Appending.{rowsFit, hasRoom, appendedUsed, appended}
-use Rattle.log_births.specs.Births.{registerRecorded, registerLogged, landRecorded, landLogged}
-use Rattle.log_attempts.specs.Attempts.{popRecorded, popLogged, completeRecorded, completeLogged, retryRecorded, retryLogged}
-use Rattle.log_stages.specs.Stages.{admitRecorded, admitLogged, endRecorded, endLogged, cancelRecorded, cancelLogged}
+use Rattle.log_rows.specs.Appending.{rowsFit, hasRoom}
+use Rattle.log_entries.specs.Noting.{noted}
+use Rattle.log_births.specs.Births.{registerRecorded, landRecorded}
+use Rattle.log_attempts.specs.Attempts.{popRecorded, completeRecorded, retryRecorded}
+use Rattle.log_stages.specs.Stages.{admitRecorded, endRecorded, cancelRecorded}
 use Rattle.history.specs.Histories.{Bench, bench, called, numberOf, Start, History, opens, calls, Made, none, one, rowsOf, openedQueue}
 use Rattle.history.proofs.Exhibit.{lent, shown, ofEachKind}
 
@@ -61,51 +62,51 @@ unfolding iteratorOpened iteratorOf
 opened-is = refl
 
 step1 : Goes (behind 0 (at 5 0 0 0 Free false false Idle)) (admit true) (behind 1 (at 5 0 0 0 Free false false Pending))
-unfolding admitRecorded admitLogged admitted wellFormed rowsFit hasRoom appendedUsed appended written
+unfolding admitRecorded admitted wellFormed noted rowsFit hasRoom written
 step1 = record { accepted = refl; leaves = refl }
 
 step2 : Goes (behind 1 (at 5 0 0 0 Free false false Pending)) (land 71) (behind 2 (at 5 1 71 0 Free false false Idle))
-unfolding landRecorded landLogged landed landRefusal wellFormed rowsFit hasRoom appendedUsed appended written
+unfolding landRecorded landed landRefusal wellFormed noted rowsFit hasRoom written
 step2 = record { accepted = refl; leaves = refl }
 
 step3 : Goes (behind 2 (at 5 1 71 0 Free false false Idle)) (register 72) (behind 3 (at 5 2 71 72 Free false false Idle))
-unfolding registerRecorded registerLogged registered registerRefusal wellFormed rowsFit hasRoom appendedUsed appended written
+unfolding registerRecorded registered registerRefusal wellFormed noted rowsFit hasRoom written
 step3 = record { accepted = refl; leaves = refl }
 
 step4 : Goes (behind 3 (at 5 2 71 72 Free false false Idle)) (admit true) (behind 4 (at 5 2 71 72 Free false false Pending))
-unfolding admitRecorded admitLogged admitted wellFormed rowsFit hasRoom appendedUsed appended written
+unfolding admitRecorded admitted wellFormed noted rowsFit hasRoom written
 step4 = record { accepted = refl; leaves = refl }
 
 step5 : Goes (behind 4 (at 5 2 71 72 Free false false Pending)) end (behind 5 (at 5 2 71 72 Free false false Ended))
-unfolding endRecorded endLogged ended wellFormed rowsFit hasRoom appendedUsed appended written
+unfolding endRecorded ended wellFormed noted rowsFit hasRoom written
 step5 = record { accepted = refl; leaves = refl }
 
 step6 : Goes (behind 5 (at 5 2 71 72 Free false false Ended)) pop (behind 6 (at 6 2 71 0 (Of (ticket 1 5)) false true Ended))
-unfolding popRecorded popLogged popped popDue newest wellFormed rowsFit hasRoom appendedUsed appended written
+unfolding popRecorded popped popDue newest wellFormed noted rowsFit hasRoom written
 step6 = record { accepted = refl; leaves = refl }
 
 step7 : Goes (behind 6 (at 6 2 71 0 (Of (ticket 1 5)) false true Ended)) (complete (ticket 1 5) 1 73) (behind 7 (at 6 2 71 73 (Of (ticket 1 5)) true false Ended))
-unfolding completeRecorded completeLogged completed completeRefusal wellFormed rowsFit hasRoom appendedUsed appended written
+unfolding completeRecorded completed completeRefusal wellFormed noted rowsFit hasRoom written
 step7 = record { accepted = refl; leaves = refl }
 
 step8 : Goes (behind 7 (at 6 2 71 73 (Of (ticket 1 5)) true false Ended)) retry (behind 8 (at 7 2 71 73 (Of (ticket 1 6)) false false Ended))
-unfolding retryRecorded retryLogged retried retryDue wellFormed rowsFit hasRoom appendedUsed appended written
+unfolding retryRecorded retried retryDue wellFormed noted rowsFit hasRoom written
 step8 = record { accepted = refl; leaves = refl }
 
 step9 : Goes (behind 8 (at 7 2 71 73 (Of (ticket 1 6)) false false Ended)) pop (behind 9 (at 7 2 71 0 (Of (ticket 1 6)) false true Ended))
-unfolding popRecorded popLogged popped popDue newest wellFormed rowsFit hasRoom appendedUsed appended written
+unfolding popRecorded popped popDue newest wellFormed noted rowsFit hasRoom written
 step9 = record { accepted = refl; leaves = refl }
 
 step10 : Goes (behind 9 (at 7 2 71 0 (Of (ticket 1 6)) false true Ended)) (complete (ticket 1 6) 0 0) (behind 10 (at 7 2 71 0 Free false false Ended))
-unfolding completeRecorded completeLogged completed completeRefusal wellFormed rowsFit hasRoom appendedUsed appended written
+unfolding completeRecorded completed completeRefusal wellFormed noted rowsFit hasRoom written
 step10 = record { accepted = refl; leaves = refl }
 
 step11 : Goes (behind 10 (at 7 2 71 0 Free false false Ended)) pop (behind 11 (at 8 2 0 0 (Of (ticket 0 7)) false true Ended))
-unfolding popRecorded popLogged popped popDue newest wellFormed rowsFit hasRoom appendedUsed appended written
+unfolding popRecorded popped popDue newest wellFormed noted rowsFit hasRoom written
 step11 = record { accepted = refl; leaves = refl }
 
 step12 : Goes (behind 11 (at 8 2 0 0 (Of (ticket 0 7)) false true Ended)) cancel (behind 12 (at 8 2 0 0 (Of (ticket 0 7)) false true Closed))
-unfolding cancelRecorded cancelLogged cancelledBy wellFormed rowsFit hasRoom appendedUsed appended written
+unfolding cancelRecorded cancelledBy wellFormed noted rowsFit hasRoom written
 step12 = record { accepted = refl; leaves = refl }
 
 -- ---- the calls

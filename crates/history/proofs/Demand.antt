@@ -22,7 +22,7 @@ use Rattle.log_replay.specs.Replay.{replayed}
 use Rattle.log_reader.specs.Reader.{endOf, openedAs}
 use Rattle.log_replay.proofs.StageRows.{row-agrees}
 use Rattle.history.specs.Histories.{Bench, bench, called, Start, History, opens, calls, rowsOf, openedQueue, opening, Leaves}
-use Rattle.history.proofs.Written.{Put}
+use Rattle.log_entries.proofs.NoteLaws.{Put}
 use Rattle.history.proofs.CallOfRow.{Writes, writes}
 use Rattle.history.proofs.Spoken.{Stands, stands, history-belongs, history-ends, rows-after}
 

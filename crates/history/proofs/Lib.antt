@@ -1,7 +1,6 @@
 pub mod Written
 pub mod RowOfCall
 pub mod Steps
-pub mod Refused
 pub mod Spoken
 pub mod CallOfRow
 pub mod Demand

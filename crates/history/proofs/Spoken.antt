@@ -5,9 +5,8 @@ use mathlib.Core.Logic.{⊎-elim}
 use mathlib.Core.Bool.{true}
 use mathlib.Core.List.{List, [], _∷_, _++_}
 use native.Mathlib.Omega.{arith}
-use lib.ListN.{length, take, drop, length-append}
+use lib.ListN.{length, drop, length-append}
 use lib.Seq.{drop-drop}
-use Rattle.choice.proofs.Ways.{hit}
 use Rattle.queue_record.specs.Record.{Sized}
 use Rattle.queue_record.specs.WellFormed.{wellFormed}
 use Rattle.queue_record.specs.declared.record.Kind.{Kind}
@@ -17,10 +16,9 @@ use Rattle.queue_record.specs.declared.openings.Opened.{Opened}
 use Rattle.queue_record.proofs.Opened.{scope-well-formed, scope-sized, opening-well-formed, opening-sized}
 use Rattle.cleanup_queue.specs.Runs.{Call, after}
 use Rattle.log_rows.specs.Rows.{rows, flat, written}
-use Rattle.log_rows.specs.Appending.{appended}
 use Rattle.log_rows.specs.declared.Row.{Row}
 use Rattle.log_rows.proofs.RowList.{rows-written}
-use Rattle.log_rows.proofs.OtherWords.{appended-behind}
+use Rattle.log_rows.proofs.OtherWords.{words-behind}
 use Rattle.log_rows.proofs.Space.{room-fits, room-few}
 use Rattle.log_rows.proofs.Written.{written-length}
 use Rattle.log_language.specs.Language.{Belongs}
@@ -33,7 +31,7 @@ use Rattle.log_replay.proofs.StageRows.{row-agrees}
 use Rattle.log_replay.proofs.RowsKeep.{row-keeps, row-sized}
 use Rattle.log_reader.proofs.Rightly.{opened-state}
 use Rattle.history.specs.Histories.{Bench, bench, Start, History, opens, calls, rowsOf, openedQueue, opening}
-use Rattle.history.proofs.Written.{Put}
+use Rattle.log_entries.proofs.NoteLaws.{Put}
 use Rattle.history.proofs.Steps.{Wrote, step}
 
 end-more : (q : Queue) (rs : List Row) (r : Row) → endOf q (rs ++ (r ∷ [])) ≡ replayed (endOf q rs) r .queue
@@ -41,9 +39,8 @@ end-more q [] r = refl
 end-more q (x ∷ rs) r = end-more (replayed q x .queue) rs r
 
 -- one row more behind the used ones: the rows that are then written
-pub rows-after : (b : Bench) (r : Row) → Put (b .log) (b .used) → (p : Queue) → rowsOf (bench p (b .used + 1) (appended (b .log) (b .used) r)) ≡ rowsOf b ++ (r ∷ [])
-unfolding appended
-rows-after b r put p = ap (λ (l : List ℕ). rows (take ((b .used + 1) * 5) l)) (hit _ (put .room)) ∙ rows-written (b .log) (b .used) r (room-fits (length (b .log)) (b .used) (put .room))
+pub rows-after : (b : Bench) (r : Row) → Put (b .log) (b .used) → (p : Queue) → rowsOf (bench p (b .used + 1) (written (b .log) (b .used) (flat r))) ≡ rowsOf b ++ (r ∷ [])
+rows-after b r put p = rows-written (b .log) (b .used) r (room-fits (length (b .log)) (b .used) (put .room))
 
 -- where a history stands
 pub record Stands (s : Start) (b : Bench) : Type 0 where
@@ -83,11 +80,7 @@ starts s e = record {
 -- ---- one row more
 module _ (s : Start) (b : Bench) (c : Call) (i : Stands s b) (w : Wrote b c) where
   abbrev now : Bench
-  now = bench (after (b .queue) c) (b .used + 1) (appended (b .log) (b .used) (w .row))
-
-  log-is : appended (b .log) (b .used) (w .row) ≡ written (b .log) (b .used) (flat (w .row))
-  unfolding appended
-  log-is = hit _ (w .put .room)
+  now = bench (after (b .queue) c) (b .used + 1) (written (b .log) (b .used) (flat (w .row)))
 
   fits-in : b .used * 5 + 5 ≤ length (b .log)
   fits-in = room-fits (length (b .log)) (b .used) (w .put .room)
@@ -108,7 +101,7 @@ module _ (s : Start) (b : Bench) (c : Call) (i : Stands s b) (w : Wrote b c) whe
       let five : (b .used + 1) * 5 ≡ b .used * 5 + 5 = omega arith in
       let k : length (rowsOf b) ≡ b .used = i .counted in
       let f : b .used * 5 + 5 ≤ length (b .log) = fits-in in
-      let l : length (appended (b .log) (b .used) (w .row)) ≡ length (b .log) = ap length log-is ∙ long-is in
+      let l : length (written (b .log) (b .used) (flat (w .row))) ≡ length (b .log) = long-is in
       let m : may (endState (opened (opening s)) (rowsOf b)) (w .row) ≡ true = sym (ap (λ (x : State). may x (w .row)) (i .state)) ∙ (sym (a .fits) ∙ w .replays .fits) in
       record {
         sound = sym (ap wellFormed (w .replays .leaves)) ∙ row-keeps (b .queue) (i .sound) (w .row);
@@ -119,7 +112,7 @@ module _ (s : Start) (b : Bench) (c : Call) (i : Stands s b) (w : Wrote b c) whe
         ended = sym (w .replays .leaves) ∙ (ap (λ (p : Queue). replayed p (w .row) .queue) (i .ended) ∙ (sym (end-more (openedQueue s) (rowsOf b) (w .row)) ∙ ap (endOf (openedQueue s)) (sym rows-are)));
         state = sym (ap stateOf (w .replays .leaves)) ∙ (a .leaves (w .replays .fits) ∙ (ap (λ (x : State). leave x (w .row)) (i .state) ∙ (sym (end-snoc (opened (opening s)) (rowsOf b) (w .row)) ∙ ap (endState (opened (opening s))) (sym rows-are))));
         long = l ∙ i .long;
-        behind = appended-behind (b .log) (b .used) (w .row) ∙ (ap (λ (n : ℕ). drop n (b .log)) five ∙ (sym (drop-drop 5 (b .used * 5) (b .log)) ∙ (ap (drop 5) (i .behind) ∙ (drop-drop 5 (b .used * 5) (s .memory) ∙ ap (λ (n : ℕ). drop n (s .memory)) (sym five)))));
+        behind = words-behind (b .log) (b .used) (w .row) fits-in ∙ (ap (λ (n : ℕ). drop n (b .log)) five ∙ (sym (drop-drop 5 (b .used * 5) (b .log)) ∙ (ap (drop 5) (i .behind) ∙ (drop-drop 5 (b .used * 5) (s .memory) ∙ ap (λ (n : ℕ). drop n (s .memory)) (sym five)))));
       }
 
 pub stands : (s : Start) (b : Bench) → History s b → Stands s b
