@@ -4,22 +4,15 @@ use mathlib.Core.Path.{_≡_}
 use mathlib.Core.Bool.{Bool, false, not}
 use mathlib.Core.List.{List}
 use native.Mathlib.Omega.{arith}
-use lib.Dec.{eqb, leb, ltb}
 use Rattle.stage.specs.Phases.{isPending, isCancelled}
 use Rattle.choice.proofs.Ways.{if-by}
-use Rattle.queue_record.specs.Newest.{newest}
-use Rattle.queue_record.specs.Waiting.{waiting}
 use Rattle.queue_record.specs.WellFormed.{wellFormed}
-use Rattle.queue_record.specs.declared.search.Found.{Found}
-use Rattle.queue_record.specs.declared.search.Found.the-variants.{At, Missing}
-use Rattle.queue_record.specs.declared.record.Selection.{Selection}
-use Rattle.queue_record.specs.declared.record.Selection.the-variants.{Free, Of}
+use Rattle.queue_record.specs.declared.search.Found.the-variants.{At}
 use Rattle.queue_record.specs.declared.record.Ticket.{Ticket}
 use Rattle.queue_record.specs.declared.record.Queue.{Queue}
 use Rattle.queue_births.specs.Births.{registered, landed}
-use Rattle.queue_decisions.specs.Slots.{noMore}
-use Rattle.queue_decisions.specs.Answers.{isOut, keepsOnDone}
-use Rattle.queue_steps.specs.Attempts.{slot, freshAt, poppedBy, popped, completed, retryAllowed, retriedBy, retried}
+use Rattle.queue_steps.specs.Attempts.{popped, completed, retried}
+use Rattle.cleanup_queue.proofs.ByCase.{register-cases, land-cases, pop-cases, complete-cases, retry-cases}
 use Rattle.queue_births.specs.declared.births.Registered.{Registered}
 use Rattle.queue_births.specs.declared.births.RegisterAnswer.{RegisterAnswer}
 use Rattle.queue_steps.specs.declared.attempts.Popped.{Popped}
@@ -58,19 +51,10 @@ module _ (q : Queue) where
     no-birth k o n e z = let y : k ≡ n = cc in o (omega arith)
 
     registers : Born (registered q number)
-    unfolding registered
-    registers =
-        if-by Born (not (wellFormed q)) _ _ (λ _. no-birth 1 (λ z. omega arith))
-        (λ _. if-by Born (eqb number 0) _ _ (λ _. no-birth 2 (λ z. omega arith))
-        (λ _. if-by Born (leb 64 (q .count)) _ _ (λ _. no-birth 3 (λ z. omega arith)) (λ _ n e z. let y : _≡_ {A = ℕ} 0 1 = cc in omega arith)))
+    registers = register-cases Born q number no-birth (λ _ _ _ n e z. let y : _≡_ {A = ℕ} 0 1 = cc in omega arith)
 
     lands : Born (landed q number)
-    unfolding landed
-    lands =
-        if-by Born (not (wellFormed q)) _ _ (λ _. no-birth 1 (λ z. omega arith))
-        (λ _. if-by Born (eqb number 0) _ _ (λ _. no-birth 2 (λ z. omega arith))
-        (λ _. if-by Born (not (isPending (q .phase))) _ _ (λ _. no-birth 4 (λ z. omega arith))
-        (λ _. if-by Born (leb 64 (q .count)) _ _ (λ _. no-birth 3 (λ z. omega arith)) (λ _ n e z. let y : _≡_ {A = ℕ} 0 1 = cc in omega arith))))
+    lands = land-cases Born q number no-birth (λ _ _ _ _ n e z. let y : _≡_ {A = ℕ} 0 1 = cc in omega arith)
 
   abbrev Taken : PopAnswer → Type 0
   Taken r = Numbered Popped.Refused (r .answer)
@@ -81,21 +65,8 @@ module _ (q : Queue) where
   nothing-popped : Numbered Popped.Refused Popped.Nothing
   nothing-popped n e z = let y : _≡_ {A = ℕ} 0 1 = cc in omega arith
 
-  fresh : (f : Found) → Taken (freshAt q f)
-  fresh Missing = nothing-popped
-  fresh (At k) =
-      if-by Taken (eqb (slot q k) 0) _ _ (λ _. no-pop 9 (λ z. omega arith))
-      (λ _. if-by Taken (leb noMore (q .next)) _ _ (λ _. no-pop 5 (λ z. omega arith)) (λ _ n e z. let y : _≡_ {A = ℕ} 0 1 = cc in omega arith))
-
-  chosen : (s : Selection) → Taken (poppedBy q s)
-  chosen Free = fresh (newest (waiting q))
-  chosen (Of t) = if-by Taken (eqb (slot q (t .token)) 0) _ _ (λ _. no-pop 9 (λ z. omega arith)) (λ _ n e z. let y : _≡_ {A = ℕ} 0 1 = cc in omega arith)
-
   pops : Taken (popped q)
-  unfolding popped
-  pops =
-      if-by Taken (not (wellFormed q)) _ _ (λ _. no-pop 1 (λ z. omega arith))
-      (λ _. if-by Taken (q .issued) _ _ (λ _. nothing-popped) (λ _. if-by Taken (q .failed) _ _ (λ _. nothing-popped) (λ _. chosen (q .selection))))
+  pops = pop-cases Taken q (λ k _ o. no-pop k o) nothing-popped (λ _ _ _ _ _ _ n e z. let y : _≡_ {A = ℕ} 0 1 = cc in omega arith) (λ _ _ _ _ n e z. let y : _≡_ {A = ℕ} 0 1 = cc in omega arith)
 
   module _ (t : Ticket) (outcome kept back : ℕ) where
     abbrev Settles : CompleteAnswer → Type 0
@@ -105,12 +76,7 @@ module _ (q : Queue) where
     no-end k o n e z = let y : k ≡ n = cc in o (omega arith)
 
     completes : Settles (completed q t outcome kept)
-    unfolding completed
-    completes =
-        if-by Settles (not (wellFormed q)) _ _ (λ _. no-end 1 (λ z. omega arith))
-        (λ _. if-by Settles (ltb 1 outcome) _ _ (λ _. no-end 15 (λ z. omega arith))
-        (λ _. if-by Settles (not (isOut (q .issued) (q .selection) t)) _ _ (λ _. no-end 6 (λ z. omega arith))
-        (λ _. if-by Settles (keepsOnDone outcome kept) _ _ (λ _. no-end 7 (λ z. omega arith)) (λ _ n e z. let y : _≡_ {A = ℕ} 0 1 = cc in omega arith))))
+    completes = complete-cases Settles q t outcome kept no-end (λ _ _ _ n e z. let y : _≡_ {A = ℕ} 0 1 = cc in omega arith)
 
   abbrev Renews : RetryAnswer → Type 0
   Renews r = Numbered Retried.Refused (r .answer)
@@ -118,13 +84,8 @@ module _ (q : Queue) where
   no-retry : (k : ℕ) → (k ≡ 0 → ⊥) → Numbered Retried.Refused (Retried.Refused k)
   no-retry k o n e z = let y : k ≡ n = cc in o (omega arith)
 
-  renews : (s : Selection) → Renews (retriedBy q s)
-  renews Free = no-retry 8 (λ z. omega arith)
-  renews (Of t) = if-by Renews (not (retryAllowed q (Of t))) _ _ (λ _. no-retry 8 (λ z. omega arith)) (λ _ n e z. let y : _≡_ {A = ℕ} 0 1 = cc in omega arith)
-
   retries : Renews (retried q)
-  unfolding retried
-  retries = if-by Renews (not (wellFormed q)) _ _ (λ _. no-retry 1 (λ z. omega arith)) (λ _. renews (q .selection))
+  retries = retry-cases Renews q no-retry (λ _ _ _ _ n e z. let y : _≡_ {A = ℕ} 0 1 = cc in omega arith)
 
   no-told : (k : ℕ) → (k ≡ 0 → ⊥) → Numbered Told.Refused (Told.Refused k)
   no-told k o n e z = let y : k ≡ n = cc in o (omega arith)

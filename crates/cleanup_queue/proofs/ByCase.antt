@@ -6,10 +6,8 @@ use native.Mathlib.Omega.{arith}
 use borrow.Author.Tests.{eqb-true, eqb-false, leb-false, ltb-false, not-false}
 use lib.Dec.{eqb, leb, ltb}
 use Rattle.choice.proofs.Ways.{if-by}
-use Rattle.stage.specs.Phases.{next, isPending}
-use Rattle.stage.specs.declared.phases.Event.the-variants.{Land}
+use Rattle.stage.specs.Phases.{isPending}
 use Rattle.queue_record.specs.Refusals.{broken, badNumber, noSlot, notPending, noAttempt, notOut, keptOnDone, noRetry, hollow, badOutcome}
-use Rattle.queue_record.specs.Record.{withPhase}
 use Rattle.queue_record.specs.WellFormed.{wellFormed}
 use Rattle.queue_record.specs.Waiting.{occupied, others, waiting}
 use Rattle.queue_record.proofs.Fit.{ready-occupied}
@@ -21,10 +19,15 @@ use Rattle.queue_record.specs.declared.record.Ticket.{Ticket}
 use Rattle.queue_record.specs.declared.record.Selection.{Selection}
 use Rattle.queue_record.specs.declared.record.Selection.the-variants.{Free, Of}
 use Rattle.queue_record.specs.declared.record.Queue.{Queue}
-use Rattle.queue_births.specs.Births.{refusedBirth, grown, born, registered, landed}
+use Rattle.queue_births.specs.Births.{refusedBirth, grown, born, bornBy, registered, landedTo, landed}
+use Rattle.queue_decisions.specs.Births.{registerRefusal, landRefusal}
+use Rattle.queue_decisions.specs.Pops.{sought, freshDue, dueBy, popDue}
+use Rattle.queue_decisions.specs.Renewals.{dueAgain, retryDue}
+use Rattle.queue_decisions.specs.declared.pops.Due.{Due}
+use Rattle.queue_decisions.specs.declared.renewals.Renewal.{Renewal}
 use Rattle.queue_decisions.specs.Slots.{noMore}
-use Rattle.queue_decisions.specs.Answers.{isOut, keepsOnDone}
-use Rattle.queue_steps.specs.Attempts.{slot, refusedPop, nothing, handed, freshTicket, freshAt, poppedBy, popped, refusedComplete, answered, completed, refusedRetry, retryAllowed, again, retriedBy, retried}
+use Rattle.queue_decisions.specs.Answers.{isOut, keepsOnDone, completeRefusal}
+use Rattle.queue_steps.specs.Attempts.{slot, refusedPop, nothing, handed, freshTicket, poppedAs, popped, refusedComplete, answered, completedBy, completed, refusedRetry, retryAllowed, renewed, again, retriedAs, retried}
 use Rattle.queue_births.specs.declared.births.RegisterAnswer.{RegisterAnswer}
 use Rattle.queue_steps.specs.declared.attempts.Popped.the-variants.{Work}
 use Rattle.queue_steps.specs.declared.attempts.PopAnswer.{PopAnswer}
@@ -42,23 +45,29 @@ module _ (P : RegisterAnswer → Type 0) (q : Queue) (number : ℕ) where
   Registers = wellFormed q ≡ true → (number ≡ 0 → ⊥) → q .count < 64 → P (born q (grown q number))
 
   abbrev pub Lands : Type 0
-  Lands = wellFormed q ≡ true → (number ≡ 0 → ⊥) → isPending (q .phase) ≡ true → q .count < 64 → P (born q (withPhase (grown q number) (next (q .phase) Land)))
+  Lands = wellFormed q ≡ true → (number ≡ 0 → ⊥) → isPending (q .phase) ≡ true → q .count < 64 → P (born q (landedTo q number))
+
+  -- of what is decided, by the number that refuses
+  abbrev Decided : Queue → ℕ → Type 0
+  Decided after n = P (bornBy q number after n)
 
   pub register-cases : Unborn → Registers → P (registered q number)
-  unfolding registered
+  unfolding registered registerRefusal
   register-cases refused taken =
+      let D : ℕ → Type 0 = Decided (grown q number) in
       if-by P (not (wellFormed q)) _ _ (λ _. refused broken (λ e. omega arith)) (λ w.
-      if-by P (eqb number 0) _ _ (λ _. refused badNumber (λ e. omega arith)) (λ z.
-      if-by P (leb 64 (q .count)) _ _ (λ _. refused noSlot (λ e. omega arith)) (λ l.
+      if-by D (eqb number 0) _ _ (λ _. refused badNumber (λ e. omega arith)) (λ z.
+      if-by D (leb 64 (q .count)) _ _ (λ _. refused noSlot (λ e. omega arith)) (λ l.
       taken (not-false _ w) (eqb-false _ _ z) (leb-false _ _ l))))
 
   pub land-cases : Unborn → Lands → P (landed q number)
-  unfolding landed
+  unfolding landed landRefusal
   land-cases refused taken =
+      let D : ℕ → Type 0 = Decided (landedTo q number) in
       if-by P (not (wellFormed q)) _ _ (λ _. refused broken (λ e. omega arith)) (λ w.
-      if-by P (eqb number 0) _ _ (λ _. refused badNumber (λ e. omega arith)) (λ z.
-      if-by P (not (isPending (q .phase))) _ _ (λ _. refused notPending (λ e. omega arith)) (λ p.
-      if-by P (leb 64 (q .count)) _ _ (λ _. refused noSlot (λ e. omega arith)) (λ l.
+      if-by D (eqb number 0) _ _ (λ _. refused badNumber (λ e. omega arith)) (λ z.
+      if-by D (not (isPending (q .phase))) _ _ (λ _. refused notPending (λ e. omega arith)) (λ p.
+      if-by D (leb 64 (q .count)) _ _ (λ _. refused noSlot (λ e. omega arith)) (λ l.
       taken (not-false _ w) (eqb-false _ _ z) (not-false _ p) (leb-false _ _ l)))))
 
   -- whatever the refusal's number is
@@ -91,24 +100,28 @@ ReadyCase P q = Popping q → (t : Ticket) → q .selection ≡ Of t → (slot q
 
 -- pop, whose refusals are never 9
 module _ (P : PopAnswer → Type 0) (q : Queue) (refused : (n : ℕ) → (n ≡ hollow → ⊥) → (n ≡ 0 → ⊥) → P (refusedPop q n)) (idle : P (nothing q)) (fresh : FreshCase P q) (ready : ReadyCase P q) where
-  by-found : Popping q → q .selection ≡ Free → (f : Found) → newest (waiting q) ≡ f → P (freshAt q f)
+  -- of what is due
+  abbrev D : Due → Type 0
+  D d = P (poppedAs q d)
+
+  by-found : Popping q → q .selection ≡ Free → (f : Found) → newest (waiting q) ≡ f → D (freshDue f (q .slots) (q .domain) (q .next))
   by-found p e Missing n = idle
   by-found p e (At token) n =
-      if-by P (eqb (slot q token) 0) _ _ (λ z. absurd (chosen-full q e token n (eqb-true _ _ z))) (λ z.
-      if-by P (leb noMore (q .next)) _ _ (λ _. refused noAttempt (λ h. omega arith) (λ h. omega arith)) (λ l.
+      if-by D (eqb (slot q token) 0) _ _ (λ z. absurd (chosen-full q e token n (eqb-true _ _ z))) (λ z.
+      if-by D (leb noMore (q .next)) _ _ (λ _. refused noAttempt (λ h. omega arith) (λ h. omega arith)) (λ l.
       fresh p e token n (eqb-false _ _ z) (leb-false _ _ l)))
 
-  by-selection : Popping q → (s : Selection) → q .selection ≡ s → P (poppedBy q s)
-  by-selection p Free e = by-found p e (newest (waiting q)) refl
+  by-selection : Popping q → (s : Selection) → q .selection ≡ s → D (dueBy (sought s (q .slots)) (q .slots) (q .domain) (q .next) s)
+  by-selection p Free e = by-found p e (newest (occupied 0 (q .slots))) (ap newest (all-occupied q e))
   by-selection p (Of t) e =
-      if-by P (eqb (slot q (t .token)) 0) _ _ (λ z. absurd (ready-occupied q t (p .sound) e (p .issued) (p .failed) (eqb-true _ _ z))) (λ z. ready p t e (eqb-false _ _ z))
+      if-by D (eqb (slot q (t .token)) 0) _ _ (λ z. absurd (ready-occupied q t (p .sound) e (p .issued) (p .failed) (eqb-true _ _ z))) (λ z. ready p t e (eqb-false _ _ z))
 
   pub pop-cases : P (popped q)
-  unfolding popped
+  unfolding popped popDue
   pop-cases =
       if-by P (not (wellFormed q)) _ _ (λ _. refused broken (λ h. omega arith) (λ h. omega arith)) (λ w.
-      if-by P (q .issued) _ _ (λ _. idle) (λ i.
-      if-by P (q .failed) _ _ (λ _. idle) (λ f.
+      if-by D (q .issued) _ _ (λ _. idle) (λ i.
+      if-by D (q .failed) _ _ (λ _. idle) (λ f.
       by-selection (record { sound = not-false _ w; issued = i; failed = f }) (q .selection) refl)))
 
 pub pop-by : (P : PopAnswer → Type 0) (q : Queue) → ((n : ℕ) → (n ≡ hollow → ⊥) → P (refusedPop q n)) → P (nothing q) → FreshCase P q → ReadyCase P q → P (popped q)
@@ -133,12 +146,13 @@ module _ (P : CompleteAnswer → Type 0) (q : Queue) (t : Ticket) (outcome kept 
   Settles = Outside q t → outcome ≤ 1 → keepsOnDone outcome kept ≡ false → P (settled (answered q (t .token) outcome kept))
 
   pub complete-cases : ((n : ℕ) → (n ≡ 0 → ⊥) → P (refusedComplete q n kept)) → Settles → P (completed q t outcome kept)
-  unfolding completed
+  unfolding completed completeRefusal
   complete-cases refused taken =
+      let D : ℕ → Type 0 = λ n. P (completedBy q t outcome kept n) in
       if-by P (not (wellFormed q)) _ _ (λ _. refused broken (λ e. omega arith)) (λ w.
-      if-by P (ltb 1 outcome) _ _ (λ _. refused badOutcome (λ e. omega arith)) (λ o.
-      if-by P (not (isOut (q .issued) (q .selection) t)) _ _ (λ _. refused notOut (λ e. omega arith)) (λ u.
-      if-by P (keepsOnDone outcome kept) _ _ (λ _. refused keptOnDone (λ e. omega arith)) (λ k.
+      if-by D (ltb 1 outcome) _ _ (λ _. refused badOutcome (λ e. omega arith)) (λ o.
+      if-by D (not (isOut (q .issued) (q .selection) t)) _ _ (λ _. refused notOut (λ e. omega arith)) (λ u.
+      if-by D (keepsOnDone outcome kept) _ _ (λ _. refused keptOnDone (λ e. omega arith)) (λ k.
       taken (record { sound = not-false _ w; issued = out-issued (q .issued) (q .selection) t (not-false _ u); selected = out-selected (q .issued) (q .selection) t (not-false _ u) }) (ltb-false _ _ o) k))))
 
   pub complete-by : ((n : ℕ) → P (refusedComplete q n kept)) → Settles → P (completed q t outcome kept)
@@ -146,15 +160,18 @@ module _ (P : CompleteAnswer → Type 0) (q : Queue) (t : Ticket) (outcome kept 
 
 -- ---- retry
 abbrev pub AgainCase : (RetryAnswer → Type 0) → Queue → Type 0
-AgainCase P q = wellFormed q ≡ true → (t : Ticket) → q .selection ≡ Of t → retryAllowed q (Of t) ≡ true → P (again q t)
+AgainCase P q = wellFormed q ≡ true → (t : Ticket) → q .selection ≡ Of t → retryAllowed q (Of t) ≡ true → P (again q (renewed q t))
 
 module _ (P : RetryAnswer → Type 0) (q : Queue) (refused : (n : ℕ) → (n ≡ 0 → ⊥) → P (refusedRetry q n)) (taken : AgainCase P q) where
-  by-selected : wellFormed q ≡ true → (s : Selection) → q .selection ≡ s → P (retriedBy q s)
+  abbrev Renews : Renewal → Type 0
+  Renews r = P (retriedAs q r)
+
+  by-selected : wellFormed q ≡ true → (s : Selection) → q .selection ≡ s → Renews (dueAgain (q .failed) (q .slots) (q .next) s)
   by-selected w Free e = refused noRetry (λ z. omega arith)
-  by-selected w (Of t) e = if-by P (not (retryAllowed q (Of t))) _ _ (λ _. refused noRetry (λ z. omega arith)) (λ a. taken w t e (not-false _ a))
+  by-selected w (Of t) e = if-by Renews (not (retryAllowed q (Of t))) _ _ (λ _. refused noRetry (λ z. omega arith)) (λ a. taken w t e (not-false _ a))
 
   pub retry-cases : P (retried q)
-  unfolding retried
+  unfolding retried retryDue
   retry-cases = if-by P (not (wellFormed q)) _ _ (λ _. refused broken (λ z. omega arith)) (λ w. by-selected (not-false _ w) (q .selection) refl)
 
 pub retry-by : (P : RetryAnswer → Type 0) (q : Queue) → ((n : ℕ) → P (refusedRetry q n)) → AgainCase P q → P (retried q)

@@ -20,7 +20,9 @@ use Rattle.queue_record.specs.declared.record.Selection.{Selection}
 use Rattle.queue_record.specs.declared.record.Selection.the-variants.{Free, Of}
 use Rattle.queue_record.specs.declared.record.Queue.{Queue}
 use Rattle.queue_record.proofs.Fit.{failed-not-issued}
-use Rattle.queue_steps.specs.Attempts.{slot, nothing, popped, refusedRetry, retriedBy, retried}
+use Rattle.queue_steps.specs.Attempts.{slot, nothing, poppedAs, popped, refusedRetry, retriedAs, retried}
+use Rattle.queue_decisions.specs.Pops.{popDue}
+use Rattle.queue_decisions.specs.Renewals.{dueAgain, retryDue}
 use Rattle.queue_questions.specs.Questions.{yesOrNo, asked, committed, finishable, canFinishTold, nothingLeft, isEmptyTold}
 use Rattle.queue_questions.specs.declared.questions.Told.the-variants.{Yes, No, Refused}
 use Rattle.cleanup_queue.specs.Promises.{Finishable}
@@ -70,8 +72,8 @@ finish-happens = refl
 module _ (q : Queue) (t : Ticket) (h : wellFormed q ≡ true) (e : q .selection ≡ Of t) (f : q .failed ≡ true) where
   -- nothing is handed out while one has failed, whatever its slot holds
   pub failed-blocks : popped q ≡ nothing q
-  unfolding popped
-  failed-blocks = miss _ (ap not h) ∙ (miss _ (failed-not-issued q h f) ∙ hit _ f)
+  unfolding popped popDue
+  failed-blocks = miss _ (ap not h) ∙ ap (poppedAs q) (miss _ (failed-not-issued q h f) ∙ hit _ f)
 
   pub failed-not-finished : (target : List ℕ) → canFinishTold q target ≡ No
   unfolding canFinishTold
@@ -83,5 +85,5 @@ module _ (q : Queue) (t : Ticket) (h : wellFormed q ≡ true) (e : q .selection 
 
   -- and once it is emptied, no retry either
   pub emptied-no-retry : slot q (t .token) ≡ 0 → retried q ≡ refusedRetry q noRetry
-  unfolding retried
-  emptied-no-retry z = miss _ (ap not h) ∙ (ap (retriedBy q) e ∙ hit _ (ap not (pass _ f ∙ stop _ (ap (λ (n : ℕ). not (eqb n 0)) z))))
+  unfolding retried retryDue
+  emptied-no-retry z = miss _ (ap not h) ∙ ap (retriedAs q) (ap (dueAgain (q .failed) (q .slots) (q .next)) e ∙ hit _ (ap not (pass _ f ∙ stop _ (ap (λ (n : ℕ). not (eqb n 0)) z))))

@@ -22,7 +22,9 @@ use Rattle.queue_record.specs.declared.record.Queue.{Queue}
 use Rattle.queue_record.proofs.Fit.{ready-occupied}
 use Rattle.queue_record.proofs.Last.{newest-none, newest-last}
 use Rattle.queue_decisions.specs.Slots.{noMore}
-use Rattle.queue_steps.specs.Attempts.{slot, refusedPop, nothing, handed, freshTicket, freshAt, poppedBy, popped}
+use Rattle.queue_steps.specs.Attempts.{slot, refusedPop, freshTicket, poppedAs, popped}
+use Rattle.queue_decisions.specs.Pops.{sought, freshDue, dueBy, popDue}
+use Rattle.queue_decisions.specs.declared.pops.Due.{Due}
 use Rattle.queue_steps.specs.declared.attempts.Popped.{Popped}
 use Rattle.queue_steps.specs.declared.attempts.Popped.the-variants.{Work}
 use Rattle.queue_steps.specs.declared.attempts.PopAnswer.{PopAnswer}
@@ -36,25 +38,29 @@ module _ (q : Queue) where
   abbrev rest : Selection → List ℕ → Bool
   rest s ks = isSelected s || (not (isNone ks) && ltb (q .next) noMore)
 
-  fresh-hands : q .selection ≡ Free → (f : Found) → newest (waiting q) ≡ f → handsOut (freshAt q f .answer) ≡ (not (isNone (waiting q)) && ltb (q .next) noMore)
+  -- whether what is due is handed out
+  abbrev hands : Due → Bool
+  hands d = handsOut (poppedAs q d .answer)
+
+  fresh-hands : q .selection ≡ Free → (f : Found) → newest (waiting q) ≡ f → handsOut (poppedAs q (freshDue f (q .slots) (q .domain) (q .next)) .answer) ≡ (not (isNone (waiting q)) && ltb (q .next) noMore)
   fresh-hands e Missing n = sym (stop _ (ap (λ (ks : List ℕ). not (isNone ks)) (newest-none (waiting q) n)))
   fresh-hands e (At token) n =
-      ap (λ (r : PopAnswer). handsOut (r .answer)) (miss _ (ne-eqb (slot q token) 0 (chosen-full q e token n)))
+      ap hands (miss _ (ne-eqb (slot q token) 0 (chosen-full q e token n)))
       ∙ (room (leb noMore (q .next)) refl ∙ sym (pass _ (ap not (newest-left (waiting q) token n))))
     where
-      room : (b : Bool) → leb noMore (q .next) ≡ b → handsOut ((if b then refusedPop q noAttempt else handed q (freshTicket q token) (slot q token) (q .next + 1)) .answer) ≡ ltb (q .next) noMore
+      room : (b : Bool) → leb noMore (q .next) ≡ b → hands (if b then Due.Refused noAttempt else Due.Of (freshTicket q token) (slot q token) (q .next + 1)) ≡ ltb (q .next) noMore
       room true h = sym (le-ltb (q .next) noMore (leb-true noMore (q .next) h))
       room false h = sym (lt-ltb (q .next) noMore (leb-false noMore (q .next) h))
 
-  by-hands : Popping q → (s : Selection) → q .selection ≡ s → handsOut (poppedBy q s .answer) ≡ rest s (waiting q)
-  by-hands p Free e = fresh-hands e (newest (waiting q)) refl
-  by-hands p (Of t) e = ap (λ (r : PopAnswer). handsOut (r .answer)) (miss _ (ne-eqb (slot q (t .token)) 0 (ready-occupied q t (p .sound) e (p .issued) (p .failed))))
+  by-hands : Popping q → (s : Selection) → q .selection ≡ s → hands (dueBy (sought s (q .slots)) (q .slots) (q .domain) (q .next) s) ≡ rest s (waiting q)
+  by-hands p Free e = fresh-hands e (newest (occupied 0 (q .slots))) (ap newest (all-occupied q e))
+  by-hands p (Of t) e = ap hands (miss _ (ne-eqb (slot q (t .token)) 0 (ready-occupied q t (p .sound) e (p .issued) (p .failed))))
 
   pub pop-exactly : handsOut (popped q .answer) ≡ mayHandOut q
-  unfolding popped mayHandOut
+  unfolding popped popDue mayHandOut
   pop-exactly = go (wellFormed q) refl (q .issued) refl (q .failed) refl
     where
-      go : (w : Bool) → wellFormed q ≡ w → (i : Bool) → q .issued ≡ i → (f : Bool) → q .failed ≡ f → handsOut ((if not w then refusedPop q broken else if i then nothing q else if f then nothing q else poppedBy q (q .selection)) .answer) ≡ (w && (not i && (not f && rest (q .selection) (waiting q))))
+      go : (w : Bool) → wellFormed q ≡ w → (i : Bool) → q .issued ≡ i → (f : Bool) → q .failed ≡ f → handsOut ((if not w then refusedPop q broken else poppedAs q (if i then Due.Nothing else if f then Due.Nothing else dueBy (sought (q .selection) (q .slots)) (q .slots) (q .domain) (q .next) (q .selection))) .answer) ≡ (w && (not i && (not f && rest (q .selection) (waiting q))))
       go false e i h f k = refl
       go true e true h f k = refl
       go true e false h true k = refl

@@ -189,10 +189,10 @@ module _ (q : Queue) (h : wellFormed q ≡ true) (t : Ticket) (e : q .selection 
   not-out : q .issued ≡ false
   not-out = failed-not-issued q h was-failed
 
-  again-fits : wellFormed (again q t .queue) ≡ true
+  again-fits : wellFormed (again q (renewed q t) .queue) ≡ true
   again-fits =
       let f : Fit q = fit q h in
-      fits (again q t .queue) (record {
+      fits (again q (renewed q t) .queue) (record {
         given = f .given;
         count = f .count;
         slots = f .slots;

@@ -22,10 +22,15 @@ use Rattle.queue_record.specs.declared.record.Ticket.{Ticket}
 use Rattle.queue_record.specs.declared.record.Selection.{Selection}
 use Rattle.queue_record.specs.declared.record.Selection.the-variants.{Free, Of}
 use Rattle.queue_record.specs.declared.record.Queue.{Queue}
-use Rattle.queue_births.specs.Births.{registered, landed}
+use Rattle.queue_births.specs.Births.{grown, bornBy, registered, landedTo, landed}
+use Rattle.queue_decisions.specs.Births.{registerRefusal, landRefusal}
+use Rattle.queue_decisions.specs.Pops.{sought, freshDue, dueBy, popDue}
+use Rattle.queue_decisions.specs.Renewals.{dueAgain, retryDue}
+use Rattle.queue_decisions.specs.declared.pops.Due.{Due}
+use Rattle.queue_decisions.specs.declared.renewals.Renewal.{Renewal}
 use Rattle.queue_decisions.specs.Slots.{noMore}
-use Rattle.queue_decisions.specs.Answers.{isOut, keepsOnDone}
-use Rattle.queue_steps.specs.Attempts.{slot, nothing, freshAt, poppedBy, popped, completed, retryAllowed, retriedBy, retried}
+use Rattle.queue_decisions.specs.Answers.{isOut, keepsOnDone, completeRefusal}
+use Rattle.queue_steps.specs.Attempts.{slot, poppedAs, popped, completedBy, completed, retryAllowed, retriedAs, retried}
 use Rattle.queue_births.specs.declared.births.Registered.{Registered}
 use Rattle.queue_births.specs.declared.births.RegisterAnswer.{RegisterAnswer}
 use Rattle.queue_steps.specs.declared.attempts.Popped.{Popped}
@@ -43,7 +48,7 @@ use Rattle.queue_stages.specs.declared.stages.CancelAnswer.{CancelAnswer}
 use Rattle.queue_stages.specs.declared.stages.Cancelled.{Cancelled}
 use Rattle.cleanup_queue.specs.Answers.{Said, says, openedSays, registeredSays, poppedSays, completedSays, retriedSays, toldSays, cancelledSays, domainSays}
 use Rattle.cleanup_queue.specs.Orders.{due, firstSaid, RefusedAs, openingOrder, registerOrder, landOrder, freshToken, chosenToken, isHollow, popOrder, freshValues, workValues, completeOrder, retryOrder, renewedValues, brokenOnly, bit, Tells}
-use Rattle.cleanup_queue.proofs.ByCase.{register-cases, register-by, land-cases, land-by, pop-cases, pop-by, complete-cases, complete-by, retry-cases, retry-by}
+use Rattle.cleanup_queue.proofs.ByCase.{all-occupied, register-cases, register-by, land-cases, land-by, pop-cases, pop-by, complete-cases, complete-by, retry-cases, retry-by}
 use Rattle.cleanup_queue.proofs.Upstream.{admit-answers, end-answers}
 
 -- one test more in front: what it refuses with is said exactly if it holds
@@ -83,8 +88,10 @@ module _ (q : Queue) (n : ℕ) where
   token-no-zero given e = let z : _≡_ {A = ℕ} 0 1 = cc in omega arith
 
   pub register-said : registeredSays (registered q n .answer) ≡ firstSaid (registerOrder q n) (n ∷ []) (q .count ∷ [])
-  unfolding registered
-  register-said = due-if birth (not (wellFormed q)) _ _ refl (due-if birth (eqb n 0) _ _ refl (due-if birth (leb 64 (q .count)) _ _ refl refl))
+  unfolding registered registerRefusal
+  register-said =
+      let by : ℕ → Said = λ k. birth (bornBy q n (grown q n) k) in
+      due-if birth (not (wellFormed q)) _ _ refl (due-if by (eqb n 0) _ _ refl (due-if by (leb 64 (q .count)) _ _ refl refl))
 
   pub register-refused : RefusedAs q (n ∷ []) (registeredSays (registered q n .answer)) (registered q n .queue)
   register-refused = register-by GivenBack q n (λ _ _. (refl, refl)) (λ _ _ _ z. absurd (z refl))
@@ -93,8 +100,10 @@ module _ (q : Queue) (n : ℕ) where
   register-no-zero = register-cases NoZero q n refused-no-zero (λ _ _ _. token-no-zero)
 
   pub land-said : registeredSays (landed q n .answer) ≡ firstSaid (landOrder q n) (n ∷ []) (q .count ∷ [])
-  unfolding landed
-  land-said = due-if birth (not (wellFormed q)) _ _ refl (due-if birth (eqb n 0) _ _ refl (due-if birth (not (isPending (q .phase))) _ _ refl (due-if birth (leb 64 (q .count)) _ _ refl refl)))
+  unfolding landed landRefusal
+  land-said =
+      let by : ℕ → Said = λ k. birth (bornBy q n (landedTo q n) k) in
+      due-if birth (not (wellFormed q)) _ _ refl (due-if by (eqb n 0) _ _ refl (due-if by (not (isPending (q .phase))) _ _ refl (due-if by (leb 64 (q .count)) _ _ refl refl)))
 
   pub land-refused : RefusedAs q (n ∷ []) (registeredSays (landed q n .answer)) (landed q n .queue)
   land-refused = land-by GivenBack q n (λ _ _. (refl, refl)) (λ _ _ _ _ z. absurd (z refl))
@@ -107,19 +116,24 @@ module _ (q : Queue) where
   abbrev taken : PopAnswer → Said
   taken r = poppedSays (r .answer)
 
-  fresh-said : (f : Found) → taken (freshAt q f) ≡ firstSaid (due hollow (isHollow q f) ∷ due noAttempt (isThere f && leb noMore (q .next)) ∷ []) [] (freshValues q f)
-  fresh-said Missing = refl
-  fresh-said (At k) = due-if taken (eqb (slot q k) 0) _ _ refl (due-if taken (leb noMore (q .next)) _ _ refl refl)
+  -- and of what is due
+  abbrev takenAs : Due → Said
+  takenAs d = taken (poppedAs q d)
 
-  by-said : (s : Selection) → taken (poppedBy q s) ≡ firstSaid (due hollow (isHollow q (chosenToken false false s (waiting q))) ∷ due noAttempt (isThere (freshToken false false s (waiting q)) && leb noMore (q .next)) ∷ []) [] (workValues q false false s)
-  by-said Free = fresh-said (newest (waiting q))
-  by-said (Of t) = due-if taken (eqb (slot q (t .token)) 0) _ _ refl refl
+  fresh-said : (f : Found) → takenAs (freshDue f (q .slots) (q .domain) (q .next)) ≡ firstSaid (due hollow (isHollow q f) ∷ due noAttempt (isThere f && leb noMore (q .next)) ∷ []) [] (freshValues q f)
+  fresh-said Missing = refl
+  fresh-said (At k) = due-if takenAs (eqb (slot q k) 0) _ _ refl (due-if takenAs (leb noMore (q .next)) _ _ refl refl)
+
+  by-said : (s : Selection) → q .selection ≡ s → takenAs (dueBy (sought s (q .slots)) (q .slots) (q .domain) (q .next) s) ≡ firstSaid (due hollow (isHollow q (chosenToken false false s (waiting q))) ∷ due noAttempt (isThere (freshToken false false s (waiting q)) && leb noMore (q .next)) ∷ []) [] (workValues q false false s)
+  by-said Free e = ap (λ (ks : List ℕ). takenAs (freshDue (newest ks) (q .slots) (q .domain) (q .next))) (sym (all-occupied q e)) ∙ fresh-said (newest (waiting q))
+  by-said (Of t) e = due-if takenAs (eqb (slot q (t .token)) 0) _ _ refl refl
 
   -- while something is issued or failed nothing is due
-  idle-said : (i f : Bool) → taken (if i then nothing q else if f then nothing q else poppedBy q (q .selection)) ≡ firstSaid (due hollow (isHollow q (chosenToken i f (q .selection) (waiting q))) ∷ due noAttempt (isThere (freshToken i f (q .selection) (waiting q)) && leb noMore (q .next)) ∷ []) [] (workValues q i f (q .selection))
+  idle-said : (i f : Bool) → takenAs (popDue i f (q .selection) (sought (q .selection) (q .slots)) (q .slots) (q .domain) (q .next)) ≡ firstSaid (due hollow (isHollow q (chosenToken i f (q .selection) (waiting q))) ∷ due noAttempt (isThere (freshToken i f (q .selection) (waiting q)) && leb noMore (q .next)) ∷ []) [] (workValues q i f (q .selection))
+  unfolding popDue
   idle-said true f = refl
   idle-said false true = refl
-  idle-said false false = by-said (q .selection)
+  idle-said false false = by-said (q .selection) refl
 
   pub pop-said : poppedSays (popped q .answer) ≡ firstSaid (popOrder q) [] (workValues q (q .issued) (q .failed) (q .selection))
   unfolding popped
@@ -139,8 +153,10 @@ module _ (q : Queue) (t : Ticket) (outcome kept : ℕ) where
   taking r = completedSays (r .answer)
 
   pub complete-said : completedSays (completed q t outcome kept .answer) ≡ firstSaid (completeOrder q t outcome kept) (kept ∷ []) []
-  unfolding completed
-  complete-said = due-if taking (not (wellFormed q)) _ _ refl (due-if taking (ltb 1 outcome) _ _ refl (due-if taking (not (isOut (q .issued) (q .selection) t)) _ _ refl (due-if taking (keepsOnDone outcome kept) _ _ refl refl)))
+  unfolding completed completeRefusal
+  complete-said =
+      let by : ℕ → Said = λ k. taking (completedBy q t outcome kept k) in
+      due-if taking (not (wellFormed q)) _ _ refl (due-if by (ltb 1 outcome) _ _ refl (due-if by (not (isOut (q .issued) (q .selection) t)) _ _ refl (due-if by (keepsOnDone outcome kept) _ _ refl refl)))
 
   pub complete-refused : RefusedAs q (kept ∷ []) (completedSays (completed q t outcome kept .answer)) (completed q t outcome kept .queue)
   complete-refused = complete-by (λ (r : CompleteAnswer). RefusedAs q (kept ∷ []) (completedSays (r .answer)) (r .queue)) q t outcome kept (λ _ _. (refl, refl)) (λ _ _ _ z. absurd (z refl))
@@ -151,15 +167,18 @@ module _ (q : Queue) (t : Ticket) (outcome kept : ℕ) where
 -- ---- retry
 module _ (q : Queue) where
   pub retry-said : retriedSays (retried q .answer) ≡ firstSaid (retryOrder q) [] (renewedValues q (q .selection))
-  unfolding retried
+  unfolding retried retryDue
   retry-said = due-if renewing (not (wellFormed q)) _ _ refl (allowed (q .selection))
     where
       renewing : RetryAnswer → Said
       renewing r = retriedSays (r .answer)
 
-      allowed : (s : Selection) → renewing (retriedBy q s) ≡ firstSaid (due noRetry (not (retryAllowed q s)) ∷ []) [] (renewedValues q s)
+      by : Renewal → Said
+      by r = renewing (retriedAs q r)
+
+      allowed : (s : Selection) → by (dueAgain (q .failed) (q .slots) (q .next) s) ≡ firstSaid (due noRetry (not (retryAllowed q s)) ∷ []) [] (renewedValues q s)
       allowed Free = refl
-      allowed (Of t) = due-if renewing (not (retryAllowed q (Of t))) _ _ refl refl
+      allowed (Of t) = due-if by (not (retryAllowed q (Of t))) _ _ refl refl
 
   pub retry-refused : RefusedAs q [] (retriedSays (retried q .answer)) (retried q .queue)
   retry-refused = retry-by (λ (r : RetryAnswer). RefusedAs q [] (retriedSays (r .answer)) (r .queue)) q (λ _ _. (refl, refl)) (λ _ _ _ _ z. absurd (z refl))

@@ -31,9 +31,11 @@ use Rattle.queue_record.specs.declared.record.Queue.{Queue}
 use Rattle.queue_record.proofs.Zeros.{full-below}
 use Rattle.queue_record.proofs.Fit.{fit, free-no-marks, issued-not-failed, failed-not-issued, issued-empty}
 use Rattle.queue_record.proofs.Waiting.{by-first, none-occupied}
-use Rattle.queue_births.specs.Births.{registered, landed}
-use Rattle.queue_decisions.specs.Answers.{sameTicket, selects, isOut, keepsOnDone}
-use Rattle.queue_steps.specs.Attempts.{slot, issuedTo, freshTicket, popped, refusedComplete, completed, retryAllowed, renewed, retriedBy, retried}
+use Rattle.queue_births.specs.Births.{grown, bornBy, registered, landedTo, landed}
+use Rattle.queue_decisions.specs.Births.{registerRefusal, landRefusal}
+use Rattle.queue_decisions.specs.Renewals.{dueAgain, retryDue}
+use Rattle.queue_decisions.specs.Answers.{sameTicket, selects, isOut, keepsOnDone, completeRefusal}
+use Rattle.queue_steps.specs.Attempts.{slot, issuedTo, freshTicket, popped, refusedComplete, completedBy, completed, retryAllowed, renewed, retriedAs, retried}
 use Rattle.queue_births.specs.declared.births.Registered.the-variants.{Token}
 use Rattle.queue_births.specs.declared.births.RegisterAnswer.{RegisterAnswer}
 use Rattle.queue_steps.specs.declared.attempts.Popped.the-variants.{Work}
@@ -246,13 +248,13 @@ module _ (q : Queue) (n : ℕ) where
 
   -- Register answers a token unless 1, 2 or 3 is due (Q93).
   pub register-succeeds : wellFormed q ≡ true → (n ≡ 0 → ⊥) → q .count < 64 → registered q n .answer ≡ Token (q .count)
-  unfolding registered
-  register-succeeds w z k = ap (λ (r : RegisterAnswer). r .answer) (miss _ (ap not w) ∙ (miss _ (ne-eqb n 0 z) ∙ miss _ (lt-leb 64 (q .count) k)))
+  unfolding registered registerRefusal
+  register-succeeds w z k = ap (λ (r : RegisterAnswer). r .answer) (miss _ (ap not w) ∙ ap (bornBy q n (grown q n)) (miss _ (ne-eqb n 0 z) ∙ miss _ (lt-leb 64 (q .count) k)))
 
   -- Land on a pending stage answers a token unless 1, 2 or 3 is due (Q123).
   pub land-succeeds : wellFormed q ≡ true → (n ≡ 0 → ⊥) → isPending (q .phase) ≡ true → q .count < 64 → landed q n .answer ≡ Token (q .count)
-  unfolding landed
-  land-succeeds w z p k = ap (λ (r : RegisterAnswer). r .answer) (miss _ (ap not w) ∙ (miss _ (ne-eqb n 0 z) ∙ (miss _ (ap not p) ∙ miss _ (lt-leb 64 (q .count) k))))
+  unfolding landed landRefusal
+  land-succeeds w z p k = ap (λ (r : RegisterAnswer). r .answer) (miss _ (ap not w) ∙ ap (bornBy q n (landedTo q n)) (miss _ (ne-eqb n 0 z) ∙ (miss _ (ap not p) ∙ miss _ (lt-leb 64 (q .count) k))))
 
   -- Land answers a token only where the stage was pending; it is not pending afterwards, and settled exactly if it was cancelled, as the table moves it (Q123, Q129, Q130).
   pub land-moves : (token : ℕ) → landed q n .answer ≡ Token token → (isPending (q .phase) ≡ true) × (isPending (landed q n .queue .phase) ≡ false) × (isSettled (landed q n .queue .phase) ≡ isCancelled (q .phase)) × (landed q n .queue .phase ≡ next (q .phase) Land)
@@ -329,10 +331,10 @@ module _ (q : Queue) (t : Ticket) (outcome kept : ℕ) where
 
   -- And then it is (Q71, Q180, Q185).
   pub complete-succeeds : wellFormed q ≡ true → q .issued ≡ true → q .selection ≡ Of t → outcome ≤ 1 → (outcome ≡ 1) ⊎ (kept ≡ 0) → completed q t outcome kept .answer ≡ Settled
-  unfolding completed
+  unfolding completed completeRefusal
   complete-succeeds w i s l k =
       let out : isOut (q .issued) (q .selection) t ≡ true = pass _ i ∙ (ap (λ (x : Selection). selects x t) s ∙ same-self t) in
-      ap (λ (r : CompleteAnswer). r .answer) (miss _ (ap not w) ∙ (miss _ (le-ltb 1 outcome l) ∙ (miss _ (ap not out) ∙ miss _ (keeps-nothing k))))
+      ap (λ (r : CompleteAnswer). r .answer) (miss _ (ap not w) ∙ ap (completedBy q t outcome kept) (miss _ (le-ltb 1 outcome l) ∙ (miss _ (ap not out) ∙ miss _ (keeps-nothing k))))
 
   -- Complete leaves the stage, next and the count of tokens.
   pub complete-leaves : (completed q t outcome kept .queue .phase ≡ q .phase) × (completed q t outcome kept .queue .next ≡ q .next) × (completed q t outcome kept .queue .count ≡ q .count)
@@ -354,8 +356,8 @@ module _ (q : Queue) (t : Ticket) (outcome kept : ℕ) where
 
 -- A reply to an earlier attempt is refused with 6.
 pub late-reply : (q : Queue) (s t : Ticket) (outcome kept : ℕ) → wellFormed q ≡ true → q .selection ≡ Of s → t .attempt < s .attempt → outcome ≤ 1 → completed q t outcome kept ≡ refusedComplete q notOut kept
-unfolding completed
-late-reply q s t outcome kept h e l o = miss _ (ap not h) ∙ (miss _ (le-ltb 1 outcome o) ∙ hit _ (ap not (apart (q .issued))))
+unfolding completed completeRefusal
+late-reply q s t outcome kept h e l o = miss _ (ap not h) ∙ ap (completedBy q t outcome kept) (miss _ (le-ltb 1 outcome o) ∙ hit _ (ap not (apart (q .issued))))
   where
     differ : sameTicket s t ≡ false
     differ = go (eqb (s .domain) (t .domain)) (eqb (s .token) (t .token))
@@ -373,12 +375,12 @@ late-reply q s t outcome kept h e l o = miss _ (ap not h) ∙ (miss _ (le-ltb 1 
 module _ (q : Queue) where
   -- Where can_retry says yes, retry answers a ticket (Q220).
   pub told-retries : canRetryTold q ≡ Yes → (t : Ticket) × (retried q .answer ≡ Again t)
-  unfolding canRetryTold retried
+  unfolding canRetryTold retried retryDue
   told-retries h = go (q .selection) refl (asked-yes q (retryAllowed q (q .selection)) h .1)
     where
       go : (s : Selection) → q .selection ≡ s → retryAllowed q s ≡ true → (t : Ticket) × (retried q .answer ≡ Again t)
       go Free e a = clash a refl
-      go (Of s) e a = (renewed q s, ap (λ (r : RetryAnswer). r .answer) (miss _ (ap not (asked-yes q (retryAllowed q (q .selection)) h .0)) ∙ (ap (retriedBy q) e ∙ miss _ (ap not a))))
+      go (Of s) e a = (renewed q s, ap (λ (r : RetryAnswer). r .answer) (miss _ (ap not (asked-yes q (retryAllowed q (q .selection)) h .0)) ∙ ap (retriedAs q) (ap (dueAgain (q .failed) (q .slots) (q .next)) e ∙ miss _ (ap not a))))
 
   -- Where retry answers a ticket, can_retry says yes (Q220).
   pub retries-told : (t : Ticket) → retried q .answer ≡ Again t → canRetryTold q ≡ Yes

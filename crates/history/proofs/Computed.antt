@@ -6,6 +6,10 @@ use mathlib.Core.List.{List, [], _∷_, _++_}
 use lib.ListN.{take, drop}
 use Rattle.stage.specs.declared.phases.Phase.{Phase}
 use Rattle.stage.specs.declared.phases.Phase.the-variants.{Idle, Pending, Ended, Closed}
+use Rattle.queue_decisions.specs.Births.{registerRefusal, landRefusal}
+use Rattle.queue_decisions.specs.Pops.{popDue}
+use Rattle.queue_decisions.specs.Answers.{completeRefusal}
+use Rattle.queue_decisions.specs.Renewals.{retryDue}
 use Rattle.queue_record.specs.Refusals.{done}
 use Rattle.queue_record.specs.Record.{withSlot, withCount, withSelection, withFailed, withIssued}
 use Rattle.queue_record.specs.WellFormed.{wellFormed}
@@ -61,11 +65,11 @@ unfolding admitRecorded admitLogged admitted wellFormed rowsFit hasRoom appended
 step1 = record { accepted = refl; leaves = refl }
 
 step2 : Goes (behind 1 (at 5 0 0 0 Free false false Pending)) (land 71) (behind 2 (at 5 1 71 0 Free false false Idle))
-unfolding landRecorded landLogged landed wellFormed rowsFit hasRoom appendedUsed appended written
+unfolding landRecorded landLogged landed landRefusal wellFormed rowsFit hasRoom appendedUsed appended written
 step2 = record { accepted = refl; leaves = refl }
 
 step3 : Goes (behind 2 (at 5 1 71 0 Free false false Idle)) (register 72) (behind 3 (at 5 2 71 72 Free false false Idle))
-unfolding registerRecorded registerLogged registered wellFormed rowsFit hasRoom appendedUsed appended written
+unfolding registerRecorded registerLogged registered registerRefusal wellFormed rowsFit hasRoom appendedUsed appended written
 step3 = record { accepted = refl; leaves = refl }
 
 step4 : Goes (behind 3 (at 5 2 71 72 Free false false Idle)) (admit true) (behind 4 (at 5 2 71 72 Free false false Pending))
@@ -77,27 +81,27 @@ unfolding endRecorded endLogged ended wellFormed rowsFit hasRoom appendedUsed ap
 step5 = record { accepted = refl; leaves = refl }
 
 step6 : Goes (behind 5 (at 5 2 71 72 Free false false Ended)) pop (behind 6 (at 6 2 71 0 (Of (ticket 1 5)) false true Ended))
-unfolding popRecorded popLogged popped newest wellFormed rowsFit hasRoom appendedUsed appended written
+unfolding popRecorded popLogged popped popDue newest wellFormed rowsFit hasRoom appendedUsed appended written
 step6 = record { accepted = refl; leaves = refl }
 
 step7 : Goes (behind 6 (at 6 2 71 0 (Of (ticket 1 5)) false true Ended)) (complete (ticket 1 5) 1 73) (behind 7 (at 6 2 71 73 (Of (ticket 1 5)) true false Ended))
-unfolding completeRecorded completeLogged completed wellFormed rowsFit hasRoom appendedUsed appended written
+unfolding completeRecorded completeLogged completed completeRefusal wellFormed rowsFit hasRoom appendedUsed appended written
 step7 = record { accepted = refl; leaves = refl }
 
 step8 : Goes (behind 7 (at 6 2 71 73 (Of (ticket 1 5)) true false Ended)) retry (behind 8 (at 7 2 71 73 (Of (ticket 1 6)) false false Ended))
-unfolding retryRecorded retryLogged retried wellFormed rowsFit hasRoom appendedUsed appended written
+unfolding retryRecorded retryLogged retried retryDue wellFormed rowsFit hasRoom appendedUsed appended written
 step8 = record { accepted = refl; leaves = refl }
 
 step9 : Goes (behind 8 (at 7 2 71 73 (Of (ticket 1 6)) false false Ended)) pop (behind 9 (at 7 2 71 0 (Of (ticket 1 6)) false true Ended))
-unfolding popRecorded popLogged popped newest wellFormed rowsFit hasRoom appendedUsed appended written
+unfolding popRecorded popLogged popped popDue newest wellFormed rowsFit hasRoom appendedUsed appended written
 step9 = record { accepted = refl; leaves = refl }
 
 step10 : Goes (behind 9 (at 7 2 71 0 (Of (ticket 1 6)) false true Ended)) (complete (ticket 1 6) 0 0) (behind 10 (at 7 2 71 0 Free false false Ended))
-unfolding completeRecorded completeLogged completed wellFormed rowsFit hasRoom appendedUsed appended written
+unfolding completeRecorded completeLogged completed completeRefusal wellFormed rowsFit hasRoom appendedUsed appended written
 step10 = record { accepted = refl; leaves = refl }
 
 step11 : Goes (behind 10 (at 7 2 71 0 Free false false Ended)) pop (behind 11 (at 8 2 0 0 (Of (ticket 0 7)) false true Ended))
-unfolding popRecorded popLogged popped newest wellFormed rowsFit hasRoom appendedUsed appended written
+unfolding popRecorded popLogged popped popDue newest wellFormed rowsFit hasRoom appendedUsed appended written
 step11 = record { accepted = refl; leaves = refl }
 
 step12 : Goes (behind 11 (at 8 2 0 0 (Of (ticket 0 7)) false true Ended)) cancel (behind 12 (at 8 2 0 0 (Of (ticket 0 7)) false true Closed))

@@ -1,5 +1,4 @@
 -- Refused, or born with the stage moved
-use Prim.Native.Nat.{_<_}
 use mathlib.Core.Path.{_≡_, sym, ap, _∙_}
 use borrow.Author.Tests.{eq-eqb, ne-eqb}
 use Rattle.choice.proofs.Ways.{hit, miss, negated}

@@ -1,8 +1,6 @@
 -- Refused, or born
-use Prim.Native.Nat.{_<_}
 use mathlib.Core.Path.{_≡_, sym, ap, _∙_}
-use mathlib.Core.Bool.{true, not}
-use borrow.Author.Tests.{eq-eqb, ne-eqb, not-false}
+use borrow.Author.Tests.{eq-eqb, ne-eqb}
 use Rattle.choice.proofs.Ways.{hit, miss, negated}
 use Rattle.queue_record.specs.declared.record.Queue.{Queue}
 use Rattle.queue_decisions.proofs.BirthLaws.{register-room}

@@ -4,8 +4,6 @@ use mathlib.Core.Path.{_≡_, sym, ap, _∙_}
 use borrow.Author.Tests.{eq-eqb, ne-eqb, le-leb, lt-leb}
 use Rattle.choice.proofs.Ways.{hit, miss}
 use Rattle.queue_record.specs.declared.search.Found.{Found}
-use Rattle.queue_record.specs.declared.search.Found.the-variants.{At}
-use Rattle.queue_decisions.specs.Slots.{slotIn}
 use Rattle.queue_decisions.specs.Pops.{freshDue, freshBy}
 use Rattle.queue_decisions.specs.declared.pops.Due.{Due}
 use borrow.Author.Needs.{needs}

@@ -1,5 +1,5 @@
 -- Refused, or the ticket renewed
-use mathlib.Core.Path.{_≡_, sym, ap, _∙_}
+use mathlib.Core.Path.{sym, ap, _∙_}
 use borrow.Author.Tests.{not-true, not-false}
 use Rattle.queue_record.specs.declared.record.Selection.{Selection}
 use Rattle.queue_decisions.specs.Renewals.{dueAgain, retryDue}

@@ -4,11 +4,10 @@ use mathlib.Core.Bool.{true}
 use borrow.Author.Tests.{eq-eqb, ne-eqb, not-false}
 use Rattle.choice.proofs.Ways.{hit, miss, negated}
 use Rattle.queue_record.specs.WellFormed.{wellFormed}
-use Rattle.queue_record.specs.declared.record.Ticket.{Ticket}
 use Rattle.queue_record.specs.declared.record.Queue.{Queue}
 use Rattle.queue_record.proofs.Fit.{selected-below}
 use Rattle.queue_decisions.proofs.AnswerLaws.{out-selected, complete-fine}
-use Rattle.queue_steps.specs.Attempts.{answered, completedBy, completed}
+use Rattle.queue_steps.specs.Attempts.{completedBy, completed}
 use Rattle.queue_steps.specs.declared.attempts.Completed.the-variants.{Settled}
 use Rattle.queue_steps.specs.declared.attempts.CompleteAnswer.{CompleteAnswer}
 use borrow.Author.Needs.{needs}
