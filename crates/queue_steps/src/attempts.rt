@@ -69,7 +69,15 @@ pub fn pop(q: Queue) -> PopAnswer
     let slots = q.slots;
     let selection = q.selection;
     let found = seek(selection, &slots);
-    let due = pop_due(q.issued, q.failed, selection, found, &slots, q.domain, q.next);
+    let due = pop_due(
+        q.issued,
+        q.failed,
+        selection,
+        found,
+        &slots,
+        q.domain,
+        q.next,
+    );
     match due {
         Due::Nothing => pop_nothing(q),
         Due::Refused(refusal) => pop_refused(q, refusal),

@@ -1,16 +1,16 @@
 -- The openings, word by word
 use Prim.Native.Nat.{ℕ, _+_, _<_, _≤_}
-use mathlib.Core.Path.{_≡_, refl, sym, ap, _∙_}
+use mathlib.Core.Path.{_≡_, sym, ap, _∙_}
 use mathlib.Core.List.{List, [], _∷_, _++_, append-assoc}
 use native.Mathlib.Omega.{arith}
 use native.Mathlib.Numerals.{add-one}
 use lib.ListN.{length, getD, take, drop, set, replicate}
 use lib.Seq.{paste, paste-suc, drop-drop, drop-append-le}
-use Rattle.queue_record.specs.Openings.{kept, scopeOf, iteratorOf}
+use Rattle.queue_record.specs.Openings.{kept, iteratorOf}
 use Rattle.queue_record.proofs.Padding.{filled-all}
 use Rattle.queue_words.specs.Layout.{atBindings, wordCount}
 use Rattle.queue_words.specs.Words.{wordsOf}
-use Rattle.queue_words.specs.InPlace.{scopeIn, iteratorIn, runPut}
+use Rattle.queue_words.specs.InPlace.{iteratorIn, runPut}
 
 -- ---- the walk that puts values
 pub put-more : (ws : List ℕ) (from : ℕ) (values : List ℕ) (i : ℕ) → length ws ≡ wordCount → from + length values ≤ wordCount → i < length values → set (paste ws from values i) (from + i) (getD values i 0) ≡ paste ws from values (i + 1)
@@ -19,11 +19,6 @@ put-more ws from values i l few h = rw add-one (paste-suc ws from values i 0 (om
 pub put-all : (ws : List ℕ) (from : ℕ) (values : List ℕ) (i : ℕ) → i ≤ length values → length values ≤ i → paste ws from values i ≡ runPut ws from values
 unfolding runPut
 put-all ws from values i h k = let e : i ≡ length values = omega arith in ap (paste ws from values) e
-
--- ---- a scope
-pub scope-words : (domain first : ℕ) → scopeIn domain first ≡ wordsOf (scopeOf domain first)
-unfolding scopeOf wordsOf
-scope-words domain first = refl
 
 -- ---- an iterator
 module _ (domain first : ℕ) (given : List ℕ) (few : length given ≤ 16) where

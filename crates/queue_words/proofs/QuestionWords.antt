@@ -10,23 +10,20 @@ use Rattle.choice.proofs.Ways.{hit, miss}
 use Rattle.queue_record.specs.Refusals.{done, broken}
 use Rattle.queue_record.specs.Waiting.{occupied, others}
 use Rattle.queue_record.specs.Newest.{newest}
-use Rattle.queue_record.specs.declared.record.Ticket.{Ticket}
 use Rattle.queue_record.specs.declared.record.Selection.{Selection}
-use Rattle.queue_record.specs.declared.record.Selection.the-variants.{Free, Of}
+use Rattle.queue_record.specs.declared.record.Selection.the-variants.{Free}
 use Rattle.queue_record.specs.declared.search.Found.the-variants.{At, Missing}
 use Rattle.queue_record.proofs.Last.{newest-none}
-use Rattle.queue_decisions.specs.Renewals.{mayRetry}
-use Rattle.queue_steps.specs.Attempts.{retryAllowed}
 use Rattle.queue_questions.specs.Questions.{yesOrNo, asked, nothingLeft, committed, domainTold}
 use Rattle.queue_questions.specs.declared.questions.Told.{Told}
 use Rattle.queue_questions.specs.declared.questions.DomainTold.{DomainTold}
 use Rattle.queue_questions.proofs.Left.{newest-left}
-use Rattle.queue_words.specs.Layout.{atDomain, atNext, atSlots, atSelected, atFailed, atBindings, atBound}
-use Rattle.queue_words.specs.Words.{word, markAt, slotsIn, selectionIn, queueOf, isSound}
+use Rattle.queue_words.specs.Layout.{atDomain, atSelected, atBindings, atBound}
+use Rattle.queue_words.specs.Words.{word, slotsIn, selectionIn, queueOf, isSound}
 use Rattle.queue_words.specs.Exported.{exported, answerOf, refusedOn, toldSaid, toldOn, domainSaid, domainOn}
 use Rattle.queue_words.specs.InPlace.{saidIn}
-use Rattle.queue_words.proofs.CheckParts.{free-in, own-in, slot-word}
-use Rattle.queue_words.proofs.OnWords.{unsound-by, sound-on, not-broken, own-place}
+use Rattle.queue_words.proofs.CheckParts.{free-in, own-in}
+use Rattle.queue_words.proofs.OnWords.{unsound-by, sound-on, not-broken}
 
 -- yes or no is its word
 pub told-word : (ws : List ℕ) (b : Bool) → toldSaid (yesOrNo b) ws ≡ saidIn ws b
@@ -52,14 +49,6 @@ module _ (ws : List ℕ) where
 
   pub left-none : word ws atSelected ≡ 0 → newest (occupied 0 (slotsIn ws)) ≡ Missing → left (selectionIn ws) ≡ true
   left-none e m = ap left (free-in ws e) ∙ ap (nothingLeft Free) (newest-none _ m)
-
-  -- ---- retry allowed
-  pub allowed-free : selectionIn ws ≡ Free → retryAllowed (queueOf ws) (selectionIn ws) ≡ false
-  allowed-free e = ap (retryAllowed (queueOf ws)) e
-
-  pub allowed-own : (t : Ticket) → isSound ws ≡ true → selectionIn ws ≡ Of t → retryAllowed (queueOf ws) (selectionIn ws) ≡ mayRetry (markAt (word ws atFailed)) (word ws (atSlots + t .token)) (word ws atNext)
-  unfolding queueOf
-  allowed-own t s e = ap (retryAllowed (queueOf ws)) e ∙ ap (λ (n : ℕ). mayRetry (markAt (word ws atFailed)) n (word ws atNext)) (slot-word ws (t .token) (own-place ws s t e))
 
   -- ---- the committed bindings
   pub committed-words : word ws atBound ≤ 16 → take (atBindings + word ws atBound - atBindings) (drop atBindings ws) ≡ committed (queueOf ws)

@@ -9,20 +9,23 @@ use Rattle.stage.specs.declared.phases.Event.the-variants.{End, Cancel}
 use Rattle.choice.proofs.Ways.{hit, miss}
 use Rattle.queue_record.specs.Refusals.{broken}
 use Rattle.queue_record.specs.Record.{withPhase}
-use Rattle.queue_questions.specs.Questions.{yesOrNo, matches}
+use Rattle.queue_questions.specs.Questions.{matches}
 use Rattle.queue_stages.specs.Stages.{afterAdmit, admitted, ended, cancelledBy}
 use Rattle.queue_words.specs.Layout.{atPhase}
 use Rattle.queue_words.specs.Words.{word, queueOf, wordsOf, isSound}
-use Rattle.queue_words.specs.Exported.{refusedOn, toldSaid, stageExported, cancelExported, admitOn, admitWithoutOn, endOn, cancelOn}
-use Rattle.queue_words.specs.InPlace.{saidIn, movedIn}
-use Rattle.queue_words.proofs.Setters.{hold-phase}
+use Rattle.queue_words.specs.Exported.{Exported, refusedOn, stageExported, cancelExported, admitOn, admitWithoutOn, endOn, cancelOn}
+use Rattle.queue_words.specs.InPlace.{saidIn}
 use Rattle.queue_words.proofs.QuestionWords.{told-word}
-use Rattle.queue_words.proofs.OnWords.{unsound-on, sound-on, not-broken, held}
+use Rattle.queue_words.proofs.OnWords.{unsound-on, sound-on, not-broken}
 
 module _ (ws : List ℕ) where
   -- the phase that the words hold
   abbrev pub phaseIn : Phase
   phaseIn = phaseAt (word ws atPhase)
+
+  -- the words with the stage moved, and yes or no
+  abbrev movedTo : Bool → Phase → Exported
+  movedTo told p = saidIn (wordsOf (withPhase (queueOf ws) p)) told
 
   module _ (u : isSound ws ≡ false) where
     pub admit-unsound : (target : List ℕ) → admitOn ws target ≡ refusedOn broken 0 ws
@@ -42,25 +45,18 @@ module _ (ws : List ℕ) where
     cancel-unsound = unsound-on ws 0 _ u (λ w. ap cancelExported (hit _ (ap not w)))
 
   module _ (s : isSound ws ≡ true) where
-    phase-moved : (told : Bool) (p : Phase) → saidIn (wordsOf (withPhase (queueOf ws) p)) told ≡ movedIn ws told p
-    unfolding movedIn
-    phase-moved told p = ap (λ (r : List ℕ). saidIn r told) (hold-phase (held ws s) p .words)
-
-    stage-moved : (told : Bool) (p : Phase) → toldSaid (yesOrNo told) (wordsOf (withPhase (queueOf ws) p)) ≡ movedIn ws told p
-    stage-moved told p = told-word (wordsOf (withPhase (queueOf ws) p)) told ∙ phase-moved told p
-
-    pub admit-moved : (target : List ℕ) → admitOn ws target ≡ movedIn ws (isPending (afterAdmit phaseIn (matches (queueOf ws) target))) (afterAdmit phaseIn (matches (queueOf ws) target))
+    pub admit-moved : (target : List ℕ) → admitOn ws target ≡ movedTo (isPending (afterAdmit phaseIn (matches (queueOf ws) target))) (afterAdmit phaseIn (matches (queueOf ws) target))
     unfolding admitOn admitted queueOf
-    admit-moved target = sound-on ws s 0 _ ∙ (ap stageExported (miss _ (not-broken ws s)) ∙ stage-moved (isPending (afterAdmit phaseIn (matches (queueOf ws) target))) (afterAdmit phaseIn (matches (queueOf ws) target)))
+    admit-moved target = sound-on ws s 0 _ ∙ (ap stageExported (miss _ (not-broken ws s)) ∙ told-word _ (isPending (afterAdmit phaseIn (matches (queueOf ws) target))))
 
-    pub admit-without-moved : admitWithoutOn ws ≡ movedIn ws (isPending phaseIn) phaseIn
+    pub admit-without-moved : admitWithoutOn ws ≡ movedTo (isPending phaseIn) phaseIn
     unfolding admitWithoutOn admitted queueOf
-    admit-without-moved = sound-on ws s 0 _ ∙ (ap stageExported (miss _ (not-broken ws s)) ∙ stage-moved (isPending phaseIn) phaseIn)
+    admit-without-moved = sound-on ws s 0 _ ∙ (ap stageExported (miss _ (not-broken ws s)) ∙ told-word _ (isPending phaseIn))
 
-    pub end-moved : endOn ws ≡ movedIn ws (isPending phaseIn) (next phaseIn End)
+    pub end-moved : endOn ws ≡ movedTo (isPending phaseIn) (next phaseIn End)
     unfolding endOn ended queueOf
-    end-moved = sound-on ws s 0 _ ∙ (ap stageExported (miss _ (not-broken ws s)) ∙ stage-moved (isPending phaseIn) (next phaseIn End))
+    end-moved = sound-on ws s 0 _ ∙ (ap stageExported (miss _ (not-broken ws s)) ∙ told-word _ (isPending phaseIn))
 
-    pub cancel-moved : cancelOn ws ≡ movedIn ws false (next phaseIn Cancel)
+    pub cancel-moved : cancelOn ws ≡ movedTo false (next phaseIn Cancel)
     unfolding cancelOn cancelledBy queueOf
-    cancel-moved = sound-on ws s 0 _ ∙ (ap cancelExported (miss _ (not-broken ws s)) ∙ phase-moved false (next phaseIn Cancel))
+    cancel-moved = sound-on ws s 0 _ ∙ ap cancelExported (miss _ (not-broken ws s))

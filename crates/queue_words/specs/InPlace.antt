@@ -1,14 +1,12 @@
--- Words changed in place: what each group of calls stores
+-- What calls store and say on words
 use Prim.Native.Nat.{ℕ}
 use mathlib.Core.Bool.{Bool, true, false}
 use mathlib.Core.List.{List}
 use lib.ListN.{length, set, replicate}
 use lib.Seq.{paste}
-use Rattle.stage.specs.Phases.{phaseNumber}
-use Rattle.stage.specs.declared.phases.Phase.{Phase}
 use Rattle.queue_record.specs.Refusals.{done}
 use Rattle.queue_record.specs.declared.record.Selection.{Selection}
-use Rattle.queue_words.specs.Layout.{atKind, atDomain, atNext, atSelected, atTicketDomain, atTicketToken, atTicketAttempt, atPhase, atBound, wordCount}
+use Rattle.queue_words.specs.Layout.{atKind, atDomain, atNext, atSelected, atTicketDomain, atTicketToken, atTicketAttempt, atBound, wordCount}
 use Rattle.queue_words.specs.Words.{selectedWord, domainWord, tokenWord, attemptWord}
 use Rattle.queue_words.specs.Exported.{Exported, exported, answerOf}
 
@@ -26,24 +24,13 @@ abbrev pub soundNumber : Bool → ℕ
 soundNumber true = 1
 soundNumber false = 0
 
--- a question answered: no word changes
+-- yes or no, beside the words
 abbrev pub saidIn : List ℕ → Bool → Exported
 saidIn ws told = exported done (answerOf (yesWord told) 0) ws
 
--- the stage moved, and yes or no
-unfoldable pub movedIn : List ℕ → Bool → Phase → Exported
-movedIn ws told phase = saidIn (set ws atPhase (phaseNumber phase)) told
-
--- ---- the openings: every word is written
-abbrev zeroWords : List ℕ
-zeroWords = replicate wordCount 0
-
-abbrev pub scopeIn : ℕ → ℕ → List ℕ
-scopeIn domain first = set (set (set zeroWords atDomain domain) atNext first) atPhase 2
-
--- an iterator's words before its bindings are put: Idle is 0
+-- an iterator's words before its bindings are put: all else is 0, and so is Idle
 abbrev pub iteratorIn : ℕ → ℕ → ℕ → List ℕ
-iteratorIn domain first bound = set (set (set (set zeroWords atKind 1) atDomain domain) atNext first) atBound bound
+iteratorIn domain first bound = set (set (set (set (replicate wordCount 0) atKind 1) atDomain domain) atNext first) atBound bound
 
 -- values in their places, one behind the other
 unfoldable pub runPut : List ℕ → ℕ → List ℕ → List ℕ

@@ -5,7 +5,7 @@ use queue_record::Selection;
 use queue_record::Ticket;
 ghost use mathlib.Core.Path.{_≡_};
 ghost use Rattle.queue_words.specs.Layout.{atGivenDomain, atGivenToken, atGivenAttempt};
-ghost use Rattle.queue_words.specs.Words.{word, kindAt, ticketOf, selectionAt};
+ghost use Rattle.queue_words.specs.Words.{word, kindAt, ticketOf, selectionIn};
 
 pub fn kind_at(number: u64) -> Kind
     ensures { λ r. ⌜ r ≡ kindAt number ⌝ }
@@ -16,16 +16,16 @@ pub fn kind_at(number: u64) -> Kind
     Kind::Iterator
 }
 
-pub fn selection_at(selected: u64, domain: u64, token: u64, attempt: u64) -> Selection
-    ensures { λ r. ⌜ r ≡ selectionAt selected domain token attempt ⌝ }
+pub fn selection_in(w: &Words) -> Selection
+    ensures { λ r. ⌜ r ≡ selectionIn (now (w .entry)) ⌝ }
 {
-    if selected == 0 {
+    if w[SELECTED] == 0 {
         return Selection::Free;
     }
     Selection::Of(Ticket {
-        domain: domain,
-        token: token,
-        attempt: attempt,
+        domain: w[TICKET_DOMAIN],
+        token: w[TICKET_TOKEN],
+        attempt: w[TICKET_ATTEMPT],
     })
 }
 

@@ -1,11 +1,9 @@
 // What is asked of sound words.
-use crate::decoding::selection_at;
+use crate::decoding::selection_in;
 use crate::layout::*;
 use crate::search::newest_waiting;
 use queue_questions::may_finish;
 use queue_record::Found;
-use queue_record::Selection;
-use queue_steps::may_retry;
 ghost use mathlib.Core.Path.{_≡_};
 ghost use mathlib.Core.Bool.{true};
 ghost use Prim.Native.Nat.{_≤_};
@@ -32,32 +30,18 @@ pub fn nothing_left(w: &Words) -> bool
 }
 
 pub fn retry_allowed(w: &Words) -> bool
-    requires { ⌜ isSound (now w) ≡ true ⌝ }
     ensures { λ r. ⌜ r ≡ retryAllowed (queueOf (now (w .entry))) (selectionIn (now (w .entry))) ⌝ }
 {
-    let selection = selection_at(
-        w[SELECTED],
-        w[TICKET_DOMAIN],
-        w[TICKET_TOKEN],
-        w[TICKET_ATTEMPT],
-    );
-    let Selection::Of(ticket) = selection else {
-        return false;
-    };
-    let at = SLOTS + ticket.token as usize;
-    may_retry(w[FAILED] == 1, w[at], w[NEXT])
+    let selection = selection_in(w);
+    let words = &w[..];
+    queue_decisions::retry_allowed(w[FAILED] == 1, selection, &words[SLOTS..COUNT], w[NEXT])
 }
 
 pub fn finish_allowed(w: &Words, target: &[u64]) -> bool
     requires { ⌜ word (now w) atBound ≤ 16 ⌝ }
     ensures { λ r. ⌜ r ≡ finishable (selectionIn (now (w .entry))) (phaseAt (word (now (w .entry)) atPhase)) (now (target .entry)) (committed (queueOf (now (w .entry)))) ⌝ }
 {
-    let selection = selection_at(
-        w[SELECTED],
-        w[TICKET_DOMAIN],
-        w[TICKET_TOKEN],
-        w[TICKET_ATTEMPT],
-    );
+    let selection = selection_in(w);
     let phase = stage::phase_at(w[PHASE]);
     let end = BINDINGS + w[BOUND] as usize;
     let words = &w[..];

@@ -5,7 +5,8 @@ ghost use mathlib.Core.Path.{_≡_};
 ghost use mathlib.Core.Bool.{true};
 ghost use Rattle.queue_record.specs.Waiting.{occupied};
 ghost use Rattle.queue_record.specs.Newest.{newest};
-ghost use Rattle.queue_words.specs.Words.{slotsIn, isSound};
+ghost use Rattle.queue_decisions.specs.Pops.{sought};
+ghost use Rattle.queue_words.specs.Words.{slotsIn, selectionIn, isSound};
 
 // From the last token down: behind it a sound record holds only 0.
 pub fn newest_waiting(w: &Words) -> Found
@@ -20,4 +21,15 @@ pub fn newest_waiting(w: &Words) -> Found
         }
     }
     Found::Missing
+}
+
+// Looked for only where nothing is selected.
+pub fn sought_in(w: &Words) -> Found
+    requires { ⌜ isSound (now w) ≡ true ⌝ }
+    ensures { λ r. ⌜ r ≡ sought (selectionIn (now (w .entry))) (slotsIn (now (w .entry))) ⌝ }
+{
+    if w[SELECTED] != 0 {
+        return Found::Missing;
+    }
+    newest_waiting(w)
 }

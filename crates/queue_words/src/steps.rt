@@ -3,12 +3,16 @@ use crate::layout::*;
 use queue_record::Ticket;
 use stage::Phase;
 ghost use mathlib.Core.Path.{_≡_};
+ghost use mathlib.Core.Bool.{true};
 ghost use Prim.Native.Nat.{_+_, _≤_};
 ghost use lib.ListN.{length};
+ghost use Rattle.queue_record.specs.Record.{withPhase};
+ghost use Rattle.queue_record.specs.Openings.{scopeOf};
 ghost use Rattle.queue_record.specs.declared.record.Selection.the-variants.{Free, Of};
 ghost use Rattle.queue_words.specs.Layout.{wordCount};
+ghost use Rattle.queue_words.specs.Words.{queueOf, wordsOf, isSound};
 ghost use Rattle.queue_words.specs.Exported.{exported};
-ghost use Rattle.queue_words.specs.InPlace.{setSelection, yesWord, movedIn, scopeIn, iteratorIn, runPut};
+ghost use Rattle.queue_words.specs.InPlace.{setSelection, yesWord, saidIn, iteratorIn, runPut};
 
 pub fn select(queue: &mut Words, ticket: Ticket)
     ensures { λ _. ⌜ now (queue .exit) ≡ setSelection (now (queue .entry)) (Of ticket) ⌝ }
@@ -38,17 +42,26 @@ pub fn yes_word(told: bool) -> u64
     1
 }
 
-pub fn move_stage(queue: &mut Words, told: bool, phase: Phase, answer: &mut Answer) -> u64
-    ensures { λ r. ⌜ exported r (now (answer .exit)) (now (queue .exit)) ≡ movedIn (now (queue .entry)) told phase ⌝ }
+pub fn put_phase(queue: &mut Words, phase: Phase)
+    requires { ⌜ isSound (now queue) ≡ true ⌝ }
+    ensures { λ _. ⌜ now (queue .exit) ≡ wordsOf (withPhase (queueOf (now (queue .entry))) phase) ⌝ }
 {
     queue[PHASE] = stage::phase_number(phase);
+}
+
+// The same, and yes or no as the answer.
+pub fn move_stage(queue: &mut Words, told: bool, phase: Phase, answer: &mut Answer) -> u64
+    requires { ⌜ isSound (now queue) ≡ true ⌝ }
+    ensures { λ r. ⌜ exported r (now (answer .exit)) (now (queue .exit)) ≡ saidIn (wordsOf (withPhase (queueOf (now (queue .entry))) phase)) told ⌝ }
+{
+    put_phase(queue, phase);
     *answer = [yes_word(told), 0, 0, 0, 0];
     0
 }
 
 // A scope's words: Ended, and all else 0.
 pub fn put_scope(queue: &mut Words, domain: u64, first: u64)
-    ensures { λ _. ⌜ now (queue .exit) ≡ scopeIn domain first ⌝ }
+    ensures { λ _. ⌜ now (queue .exit) ≡ wordsOf (scopeOf domain first) ⌝ }
 {
     *queue = [0u64; WORDS];
     queue[DOMAIN] = domain;

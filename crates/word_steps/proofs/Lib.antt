@@ -1,4 +1,3 @@
-pub mod Through
 pub mod BirthLaws
 pub mod PopLaws
 pub mod CompleteLaws

@@ -1,24 +1,33 @@
 -- The words' own selection, phase and bindings in use
-use mathlib.Core.Path.{ap}
+use Prim.Native.Nat.{ℕ, _+_, _-_}
+use mathlib.Core.Path.{_≡_, ap, _∙_}
 use mathlib.Core.List.{List}
-use Prim.Native.Nat.{ℕ}
-use Rattle.queue_questions.specs.Questions.{finishable}
-use Rattle.queue_words.specs.Layout.{atPhase}
-use Rattle.queue_words.specs.Words.{word, selectionIn}
+use lib.ListN.{take, drop}
 use Rattle.stage.specs.Phases.{phaseAt}
+use Rattle.stage.specs.declared.phases.Phase.{Phase}
+use Rattle.queue_record.specs.declared.record.Selection.{Selection}
+use Rattle.queue_questions.specs.Questions.{finishable, committed}
+use Rattle.queue_words.specs.Layout.{atPhase, atBindings, atBound}
+use Rattle.queue_words.specs.Words.{word, selectionIn, queueOf}
 use Rattle.queue_words.proofs.QuestionWords.{committed-words}
 use borrow.Author.Needs.{needs}
 use Rattle.queue_words.proofs.questions.finish_allowed.Statement.{statement}
 use Rattle.queue_words.proofs.questions.finish_allowed.Tie as tie
 
+-- behind the reading of the phase: the words that are asked, and the bindings that they lend
+abbrev asked : tie.After-phase-at → List ℕ
+asked c = (c .before .before .before .before .args .w .now)
+
+abbrev lent : tie.After-phase-at → List ℕ
+lent c = take (atBindings + word (asked c) atBound - atBindings) (drop atBindings (asked c))
+
+own : (c : tie.After-phase-at) → finishable (c .before .before .selection-in .result) (c .phase-at .result) (c .before .before .before .before .args .target .now) (lent c) ≡ finishable (selectionIn (asked c)) (phaseAt (word (asked c) atPhase)) (c .before .before .before .before .args .target .now) (committed (queueOf (asked c)))
+own c = ap (λ (x : Selection). finishable x (c .phase-at .result) (c .before .before .before .before .args .target .now) (lent c)) (c .before .before .selection-in .ensures) ∙ (ap (λ (p : Phase). finishable (selectionIn (asked c)) p (c .before .before .before .before .args .target .now) (lent c)) (c .phase-at .ensures) ∙ ap (finishable (selectionIn (asked c)) (phaseAt (word (asked c) atPhase)) (c .before .before .before .before .args .target .now)) (committed-words (asked c) (c .before .before .before .before .pre)))
+
 pub finish-allowed-spec : {M : Type 1} → statement M
 finish-allowed-spec =
     tie.close
     (tie.spec
-    (λ c. search needs)
-    (λ c. search needs)
-    (λ c. search needs)
-    (λ c. search needs)
     (λ c κs. search needs)
     (λ c. search needs)
     (λ c κs. search needs)
@@ -28,6 +37,4 @@ finish-allowed-spec =
     (λ c. search needs)
     (λ c. search needs)
     (λ c κs. search needs)
-    (λ c.
-    let a = c .before .before .before .before .before .before .before .before .before .before .before .before .args in
-    rw ((c .may-finish .ensures), (c .before .before .before .before .before .before .selection-at .ensures), (c .before .before .before .before .phase-at .ensures)) (ap (λ (l : List ℕ). finishable (selectionIn (a .w .now)) (phaseAt (word (a .w .now) atPhase)) (a .target .now) l) (committed-words (a .w .now) (c .before .before .before .before .before .before .before .before .before .before .before .before .pre)))))
+    (λ c. (c .may-finish .ensures) ∙ own (c .before .before .before .before)))

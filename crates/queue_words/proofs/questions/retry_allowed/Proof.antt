@@ -1,28 +1,32 @@
--- No without a ticket; else its slot, the mark and the attempts left
-use mathlib.Core.Path.{sym, _∙_}
-use native.Mathlib.Omega.{arith}
-use Rattle.queue_words.proofs.OnWords.{own-place}
-use Rattle.queue_words.proofs.QuestionWords.{allowed-free, allowed-own}
+-- By the words' own selection
+use mathlib.Core.Path.{_≡_, ap, _∙_}
+use mathlib.Core.Bool.{Bool}
+use Rattle.queue_record.specs.declared.record.Selection.{Selection}
+use Rattle.queue_decisions.specs.Renewals.{allowedBy}
+use Rattle.queue_steps.specs.Attempts.{retryAllowed}
+use Rattle.queue_words.specs.Layout.{atNext, atFailed}
+use Rattle.queue_words.specs.Words.{word, markAt, slotsIn, selectionIn, queueOf}
 use borrow.Author.Needs.{needs}
 use Rattle.queue_words.proofs.questions.retry_allowed.Statement.{statement}
 use Rattle.queue_words.proofs.questions.retry_allowed.Tie as tie
+
+-- behind the words that are lent
+abbrev byOwn : tie.After-words → Selection → Bool
+byOwn c s = allowedBy (markAt (word (c .before .before .args .w .now) atFailed)) (slotsIn (c .before .before .args .w .now)) (word (c .before .before .args .w .now) atNext) s
+
+own : (c : tie.After-words) → byOwn c (c .before .selection-in .result) ≡ retryAllowed (queueOf (c .before .before .args .w .now)) (selectionIn (c .before .before .args .w .now))
+unfolding queueOf
+own c = ap (byOwn c) (c .before .selection-in .ensures)
 
 pub retry-allowed-spec : {M : Type 1} → statement M
 retry-allowed-spec =
     tie.close
     (tie.spec
+    (λ c κs. search needs)
+    (λ c. search needs)
     (λ c. search needs)
     (λ c. search needs)
     (λ c. search needs)
     (λ c. search needs)
     (λ c κs. search needs)
-    (λ c. search needs)
-    (λ c. search needs)
-    (λ c. sym (allowed-free (c .before .before .before .before .before .before .before .args .w .now) (sym (c .before .before .selection-at .ensures) ∙ (c .enum-told .given .1))))
-    (λ c. omega (arith, own-place (c .before .before .before .before .before .before .before .before .args .w .now) (c .before .before .before .before .before .before .before .before .pre) (c .before .selection .given .0 .0) (sym (c .before .before .before .selection-at .ensures) ∙ (c .before .selection .given .1))))
-    (λ c. search needs)
-    (λ c. omega (arith, own-place (c .before .before .before .before .before .before .before .before .before .args .w .now) (c .before .before .before .before .before .before .before .before .before .pre) (c .before .before .selection .given .0 .0) (sym (c .before .before .before .before .selection-at .ensures) ∙ (c .before .before .selection .given .1))))
-    (λ c. omega (arith, own-place (c .before .before .before .before .before .before .before .before .before .args .w .now) (c .before .before .before .before .before .before .before .before .before .pre) (c .before .before .selection .given .0 .0) (sym (c .before .before .before .before .selection-at .ensures) ∙ (c .before .before .selection .given .1))))
-    (λ c. search needs)
-    (λ c κs. search needs)
-    (λ c. (c .may-retry .ensures) ∙ sym (allowed-own (c .before .before .before .before .before .before .before .before .before .before .before .before .args .w .now) (c .before .before .before .before .before .selection .given .0 .0) (c .before .before .before .before .before .before .before .before .before .before .before .before .pre) (sym (c .before .before .before .before .before .before .before .selection-at .ensures) ∙ (c .before .before .before .before .before .selection .given .1)))))
+    (λ c. (c .retry-allowed .ensures) ∙ own (c .before .before .before .before)))

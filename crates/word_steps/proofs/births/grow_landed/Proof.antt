@@ -1,7 +1,25 @@
 -- The stores one by one
+use mathlib.Core.Path.{_≡_, sym}
+use lib.ListN.{set}
+use Rattle.stage.specs.Phases.{next, phaseNumber, phaseAt}
+use Rattle.stage.specs.declared.phases.Phase.{Phase}
+use Rattle.stage.specs.declared.phases.Event.the-variants.{Land}
+use Rattle.queue_births.specs.Births.{grown, landedTo}
+use Rattle.queue_words.specs.Layout.{atPhase}
+use Rattle.queue_words.specs.Words.{word, queueOf, wordsOf}
+use Rattle.queue_words.proofs.Setters.{phase-set}
+use Rattle.word_steps.proofs.BirthLaws.{grown-held}
 use borrow.Author.Needs.{needs}
 use Rattle.word_steps.proofs.births.grow_landed.Statement.{statement}
 use Rattle.word_steps.proofs.births.grow_landed.Tie as tie
+
+-- behind the birth: the phase that land moves to, and its word
+abbrev phaseIn : tie.After-grow → Phase
+phaseIn c = phaseAt (word (c .before .before .before .before .args .queue .now) atPhase)
+
+put : (c : tie.After-grow) → set (wordsOf (grown (queueOf (c .before .before .before .before .args .queue .now)) (c .before .before .before .before .args .number))) atPhase (phaseNumber (next (phaseIn c) Land)) ≡ wordsOf (landedTo (queueOf (c .before .before .before .before .args .queue .now)) (c .before .before .before .before .args .number))
+unfolding queueOf
+put c = sym (phase-set (grown (queueOf (c .before .before .before .before .args .queue .now)) (c .before .before .before .before .args .number)) (grown-held (c .before .before .before .before .args .queue .now) (c .before .before .before .before .pre .0) (c .before .before .before .before .args .number) (c .before .before .before .before .pre .1) .slots) (next (phaseIn c) Land))
 
 pub grow-landed-spec : {M : Type 1} → statement M
 grow-landed-spec =
@@ -13,4 +31,4 @@ grow-landed-spec =
     (λ c κs. search needs)
     (λ c κs. search needs)
     (λ c. search needs)
-    (λ c. rw ((c .phase-number .ensures), (c .before .next-phase .ensures), (c .before .before .grow .ensures), (c .before .before .before .before .phase-at .ensures))))
+    (λ c. rw ((c .phase-number .ensures), (c .before .next-phase .ensures), (c .before .before .grow .ensures), (c .before .before .before .before .phase-at .ensures)) (put (c .before .before))))

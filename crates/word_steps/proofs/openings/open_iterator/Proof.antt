@@ -1,5 +1,5 @@
 -- Refused with the blank queue, or the iterator's words
-use mathlib.Core.Path.{sym, ap, _∙_}
+use mathlib.Core.Path.{_≡_, sym, ap, _∙_}
 use Prim.Native.Nat.{ℕ}
 use mathlib.Core.List.{List}
 use lib.ListN.{length}
@@ -11,11 +11,26 @@ use Rattle.queue_record.specs.declared.openings.OpenAnswer.{OpenAnswer}
 use Rattle.queue_words.specs.Layout.{atBindings}
 use Rattle.queue_words.specs.Words.{wordsOf}
 use Rattle.queue_words.specs.Exported.{openNumber}
-use Rattle.queue_words.specs.InPlace.{runPut}
-use Rattle.queue_words.proofs.OpenWords.{scope-words, iterator-words}
+use Rattle.queue_words.specs.InPlace.{iteratorIn, runPut}
+use Rattle.queue_words.proofs.OpenWords.{iterator-words}
 use borrow.Author.Needs.{needs}
 use Rattle.word_steps.proofs.openings.open_iterator.Statement.{statement}
 use Rattle.word_steps.proofs.openings.open_iterator.Tie as tie
+
+-- at most 16 bindings: what is opened, and its words
+abbrev given : tie.Else1 → List ℕ
+given c = (c .before .before .args .bindings .now)
+
+abbrev opened : tie.Else1 → OpenAnswer
+opened c = iteratorOpened (c .before .before .args .domain) (c .before .before .args .first) (given c)
+
+no-refusal : (c : tie.Else1) → openNumber (opened c .answer) ≡ 0
+unfolding iteratorOpened
+no-refusal c = ap (λ (r : OpenAnswer). openNumber (r .answer)) (miss _ (le-ltb _ _ (c .if1 .left)))
+
+stored : (c : tie.Else1) → runPut (iteratorIn (c .before .before .args .domain) (c .before .before .args .first) (length (given c))) atBindings (given c) ≡ wordsOf (opened c .queue)
+unfolding iteratorOpened
+stored c = iterator-words (c .before .before .args .domain) (c .before .before .args .first) (given c) (c .if1 .left) ∙ sym (ap (λ (r : OpenAnswer). wordsOf (r .queue)) (miss _ (le-ltb _ _ (c .if1 .left))))
 
 pub open-iterator-spec : {M : Type 1} → statement M
 unfolding iteratorOpened blank
@@ -23,9 +38,7 @@ open-iterator-spec =
     tie.close
     (tie.spec
     (λ c κs. search needs)
-    (λ c. (sym (ap (λ (r : OpenAnswer). openNumber (r .answer)) (hit _ (lt-ltb _ _ (c .before .before .if1 .taken)))), (c .put-scope .ensures) ∙ (scope-words 0 0 ∙ sym (ap (λ (r : OpenAnswer). wordsOf (r .queue)) (hit _ (lt-ltb _ _ (c .before .before .if1 .taken)))))))
+    (λ c. (sym (ap (λ (r : OpenAnswer). openNumber (r .answer)) (hit _ (lt-ltb _ _ (c .before .before .if1 .taken)))), (c .put-scope .ensures) ∙ sym (ap (λ (r : OpenAnswer). wordsOf (r .queue)) (hit _ (lt-ltb _ _ (c .before .before .if1 .taken))))))
     (λ c κs. search needs)
     (λ c κs. (ap length (c .before .put-iterator .ensures), omega (arith, (c .before .before .before .if1 .left))))
-    (λ c.
-    let a = c .before .before .before .before .before .before .args in
-    (sym (ap (λ (r : OpenAnswer). openNumber (r .answer)) (miss _ (le-ltb _ _ (c .before .before .before .before .if1 .left)))), (c .put-run .ensures) ∙ (ap (λ (l : List ℕ). runPut l atBindings (a .bindings .now)) (c .before .before .put-iterator .ensures) ∙ (iterator-words (a .domain) (a .first) (a .bindings .now) (c .before .before .before .before .if1 .left) ∙ sym (ap (λ (r : OpenAnswer). wordsOf (r .queue)) (miss _ (le-ltb _ _ (c .before .before .before .before .if1 .left)))))))))
+    (λ c. (sym (no-refusal (c .before .before .before .before)), (c .put-run .ensures) ∙ (ap (λ (l : List ℕ). runPut l atBindings (given (c .before .before .before .before))) (c .before .before .put-iterator .ensures) ∙ stored (c .before .before .before .before)))))

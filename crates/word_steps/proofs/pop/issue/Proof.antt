@@ -1,4 +1,9 @@
 -- The stores one by one
+use mathlib.Core.Path.{sym}
+use mathlib.Core.Bool.{true}
+use Rattle.queue_record.specs.declared.record.Selection.the-variants.{Of}
+use Rattle.queue_words.proofs.Setters.{hold-next, hold-slot, hold-selection, hold-issued}
+use Rattle.queue_words.proofs.OnWords.{held}
 use borrow.Author.Needs.{needs}
 use Rattle.word_steps.proofs.pop.issue.Statement.{statement}
 use Rattle.word_steps.proofs.pop.issue.Tie as tie
@@ -13,4 +18,6 @@ issue-spec =
     (λ c. search needs)
     (λ c. search needs)
     (λ c. search needs)
-    (λ c. rw (c .select .ensures)))
+    (λ c.
+    let a = (c .before .before .args) in
+    rw (c .select .ensures) (sym (hold-issued (hold-next (hold-slot (hold-selection (held (a .queue .now) (c .before .before .pre .0)) (Of (a .ticket))) (a .ticket .token) 0 (c .before .before .pre .1)) (a .next)) true .words))))

@@ -1,4 +1,10 @@
 -- The stores one by one
+use Prim.Native.Nat.{_+_}
+use mathlib.Core.Path.{sym}
+use mathlib.Core.Bool.{false}
+use Rattle.queue_record.specs.declared.record.Selection.the-variants.{Of}
+use Rattle.queue_words.proofs.Setters.{hold-next, hold-selection, hold-failed}
+use Rattle.queue_words.proofs.OnWords.{held}
 use borrow.Author.Needs.{needs}
 use Rattle.word_steps.proofs.retry.renew.Statement.{statement}
 use Rattle.word_steps.proofs.retry.renew.Tie as tie
@@ -11,4 +17,6 @@ renew-spec =
     (λ c. search needs)
     (λ c. search needs)
     (λ c. search needs)
-    (λ c. rw (c .before .select .ensures)))
+    (λ c.
+    let a = (c .before .before .before .args) in
+    rw (c .before .select .ensures) (sym (hold-failed (hold-next (hold-selection (held (a .queue .now) (c .before .before .before .pre .0)) (Of (a .ticket))) (a .ticket .attempt + 1)) false .words))))

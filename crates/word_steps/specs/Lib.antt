@@ -1,4 +1,0 @@
-pub mod Births
-pub mod Pops
-pub mod Answers
-pub mod Renewals
