@@ -82,11 +82,15 @@ answered q token outcome kept =
 abbrev pub completedBy : Queue → Ticket → ℕ → ℕ → ℕ → CompleteAnswer
 completedBy q ticket outcome kept refusal = if eqb refusal 0 then record { answer = Settled; queue = answered q (ticket .token) outcome kept } else refusedComplete q refusal kept
 
+-- what refuses the answer in this record
+abbrev pub refusalIn : Queue → Ticket → ℕ → ℕ → ℕ
+refusalIn q ticket outcome kept = completeRefusal (q .issued) (q .selection) ticket outcome kept
+
 -- complete. Order 1, 15, 6, 7
 unfoldable pub completed : Queue → Ticket → ℕ → ℕ → CompleteAnswer
 completed q ticket outcome kept =
     if not (wellFormed q) then refusedComplete q broken kept else
-    completedBy q ticket outcome kept (completeRefusal (q .issued) (q .selection) ticket outcome kept)
+    completedBy q ticket outcome kept (refusalIn q ticket outcome kept)
 
 -- an answer that is taken in, and not refused
 abbrev pub isSettledAnswer : Completed → Bool

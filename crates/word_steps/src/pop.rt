@@ -45,11 +45,11 @@ pub fn issue(queue: &mut Words, ticket: Ticket, next: u64)
     queue[ISSUED] = 1;
 }
 
-pub fn pop_in(queue: &mut Words, answer: &mut Answer) -> u64
-    requires { ⌜ isSound (now queue) ≡ true ⌝ }
+// The call, by what is due.
+pub fn pop_by(queue: &mut Words, due: Due, answer: &mut Answer) -> u64
+    requires { ⌜ (isSound (now queue) ≡ true) × (due ≡ dueIn (queueOf (now queue))) ⌝ }
     ensures { λ r. ⌜ exported r (now (answer .exit)) (now (queue .exit)) ≡ popOn (now (queue .entry)) ⌝ }
 {
-    let due = due_in(queue);
     match due {
         Due::Nothing => {
             *answer = [1, 0, 0, 0, 0];
@@ -65,4 +65,12 @@ pub fn pop_in(queue: &mut Words, answer: &mut Answer) -> u64
             0
         }
     }
+}
+
+pub fn pop_in(queue: &mut Words, answer: &mut Answer) -> u64
+    requires { ⌜ isSound (now queue) ≡ true ⌝ }
+    ensures { λ r. ⌜ exported r (now (answer .exit)) (now (queue .exit)) ≡ popOn (now (queue .entry)) ⌝ }
+{
+    let due = due_in(queue);
+    pop_by(queue, due, answer)
 }

@@ -30,11 +30,11 @@ pub fn renew(queue: &mut Words, ticket: Ticket)
     queue[FAILED] = 0;
 }
 
-pub fn retry_in(queue: &mut Words, answer: &mut Answer) -> u64
-    requires { ⌜ isSound (now queue) ≡ true ⌝ }
+// The call, by the ticket that is due again.
+pub fn retry_by(queue: &mut Words, again: Renewal, answer: &mut Answer) -> u64
+    requires { ⌜ (isSound (now queue) ≡ true) × (again ≡ dueAgainIn (queueOf (now queue))) ⌝ }
     ensures { λ r. ⌜ exported r (now (answer .exit)) (now (queue .exit)) ≡ retryOn (now (queue .entry)) ⌝ }
 {
-    let again = again_in(queue);
     match again {
         Renewal::Refused(refusal) => {
             *answer = [0, 0, 0, 0, 0];
@@ -46,4 +46,12 @@ pub fn retry_in(queue: &mut Words, answer: &mut Answer) -> u64
             0
         }
     }
+}
+
+pub fn retry_in(queue: &mut Words, answer: &mut Answer) -> u64
+    requires { ⌜ isSound (now queue) ≡ true ⌝ }
+    ensures { λ r. ⌜ exported r (now (answer .exit)) (now (queue .exit)) ≡ retryOn (now (queue .entry)) ⌝ }
+{
+    let again = again_in(queue);
+    retry_by(queue, again, answer)
 }
