@@ -16,6 +16,6 @@ gulberzan-can-retry-spec =
     tie.close (tie.spec
     (λ c κs. search needs)
     (λ c. sym (told-unsound (c .before .before .before .args .queue .now) (retryAllowed (queueOf (c .before .before .before .args .queue .now)) (selectionIn (c .before .before .before .args .queue .now))) (sym (c .before .before .sound .ensures) ∙ not-true _ (c .before .if1 .taken))))
-    (λ c κs. (sym (c .before .sound .ensures) ∙ not-false _ (c .if1 .left)))
+    (λ c κs. search needs)
     (λ c κs. search needs)
     (λ c. rw ((c .before .yes-word .ensures), (c .before .before .retry-allowed .ensures)) (sym (told-sound (c .before .before .before .before .before .args .queue .now) (retryAllowed (queueOf (c .before .before .before .before .before .args .queue .now)) (selectionIn (c .before .before .before .before .before .args .queue .now))) (sym (c .before .before .before .before .sound .ensures) ∙ not-false _ (c .before .before .before .if1 .left))))))
