@@ -1,5 +1,3 @@
-pub mod Kept
-pub mod KeptBirths
-pub mod KeptAttempts
-pub mod KeptStages
 pub mod BackWords
+pub mod Ended
+pub mod ToldLaws

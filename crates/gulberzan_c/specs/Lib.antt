@@ -1,3 +1,3 @@
 pub mod Recorded
-pub mod Keeping
+pub mod Told
 pub mod ReadBack

@@ -1,7 +1,6 @@
 // The public calls of a queue for C: the queue is words that the caller lends, checked on the way in and changed in place.
 mod attempts;
 mod births;
-mod keeping;
 mod openings;
 mod questions;
 mod reading;
@@ -9,3 +8,4 @@ mod recorded_attempts;
 mod recorded_births;
 mod recorded_stages;
 mod stages;
+mod told;

@@ -13,7 +13,7 @@ use Rattle.queue_questions.specs.Questions.{matches}
 use Rattle.queue_stages.specs.Stages.{afterAdmit, admitted, ended, cancelledBy}
 use Rattle.queue_words.specs.Layout.{atPhase}
 use Rattle.queue_words.specs.Words.{word, queueOf, wordsOf, isSound}
-use Rattle.queue_words.specs.Exported.{Exported, refusedOn, stageExported, cancelExported, admitOn, admitWithoutOn, endOn, cancelOn}
+use Rattle.queue_words.specs.Exported.{admitBy, Exported, refusedOn, stageExported, cancelExported, admitOn, admitWithoutOn, endOn, cancelOn}
 use Rattle.queue_words.specs.InPlace.{saidIn}
 use Rattle.queue_words.proofs.QuestionWords.{told-word}
 use Rattle.queue_words.proofs.OnWords.{unsound-on, sound-on, not-broken}
@@ -45,13 +45,9 @@ module _ (ws : List ℕ) where
     cancel-unsound = unsound-on ws 0 _ u (λ w. ap cancelExported (hit _ (ap not w)))
 
   module _ (s : isSound ws ≡ true) where
-    pub admit-moved : (target : List ℕ) → admitOn ws target ≡ movedTo (isPending (afterAdmit phaseIn (matches (queueOf ws) target))) (afterAdmit phaseIn (matches (queueOf ws) target))
-    unfolding admitOn admitted queueOf
-    admit-moved target = sound-on ws s 0 _ ∙ (ap stageExported (miss _ (not-broken ws s)) ∙ told-word _ (isPending (afterAdmit phaseIn (matches (queueOf ws) target))))
-
-    pub admit-without-moved : admitWithoutOn ws ≡ movedTo (isPending phaseIn) phaseIn
-    unfolding admitWithoutOn admitted queueOf
-    admit-without-moved = sound-on ws s 0 _ ∙ (ap stageExported (miss _ (not-broken ws s)) ∙ told-word _ (isPending phaseIn))
+    pub admit-by-moved : (m : Bool) → admitBy ws m ≡ movedTo (isPending (afterAdmit phaseIn m)) (afterAdmit phaseIn m)
+    unfolding admitted queueOf
+    admit-by-moved m = sound-on ws s 0 _ ∙ (ap stageExported (miss _ (not-broken ws s)) ∙ told-word _ (isPending (afterAdmit phaseIn m)))
 
     pub end-moved : endOn ws ≡ movedTo (isPending phaseIn) (next phaseIn End)
     unfolding endOn ended queueOf

@@ -1,6 +1,6 @@
 -- What the exported calls do to a queue's words: each is the public call on the record that they encode
 use Prim.Native.Nat.{ℕ}
-use mathlib.Core.Bool.{not, false}
+use mathlib.Core.Bool.{Bool, not, false}
 use mathlib.Core.List.{List, [], _∷_}
 use Rattle.choice.specs.Choice.{if_then_else_}
 use Rattle.queue_record.specs.Refusals.{done, broken}
@@ -114,11 +114,15 @@ toldSaid (Told.Refused refusal) ws = refusedOn refusal 0 ws
 abbrev pub stageExported : StageAnswer → Exported
 stageExported r = toldSaid (r .answer) (wordsOf (r .queue))
 
+-- matched: a target is given and its set equals the committed set
+abbrev pub admitBy : List ℕ → Bool → Exported
+admitBy ws matched = onRecord ws 0 (stageExported (admitted (queueOf ws) matched))
+
 unfoldable pub admitOn : List ℕ → List ℕ → Exported
-admitOn ws target = onRecord ws 0 (stageExported (admitted (queueOf ws) (matches (queueOf ws) target)))
+admitOn ws target = admitBy ws (matches (queueOf ws) target)
 
 unfoldable pub admitWithoutOn : List ℕ → Exported
-admitWithoutOn ws = onRecord ws 0 (stageExported (admitted (queueOf ws) false))
+admitWithoutOn ws = admitBy ws false
 
 unfoldable pub endOn : List ℕ → Exported
 endOn ws = onRecord ws 0 (stageExported (ended (queueOf ws)))

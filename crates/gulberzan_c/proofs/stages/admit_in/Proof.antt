@@ -1,0 +1,31 @@
+-- The stage moved as the target says
+use mathlib.Core.Path.{_≡_, sym, ap, _∙_}
+use mathlib.Core.Bool.{Bool, false}
+use Rattle.stage.specs.declared.phases.Phase.{Phase}
+use Rattle.queue_record.specs.Record.{withPhase}
+use Rattle.queue_words.specs.Words.{queueOf, wordsOf}
+use Rattle.queue_words.specs.InPlace.{saidIn}
+use Rattle.stage.specs.Phases.{isPending}
+use Rattle.queue_stages.specs.Stages.{afterAdmit}
+use Rattle.queue_words.proofs.StageWords.{phaseIn, admit-by-moved}
+use borrow.Author.Needs.{needs}
+use Rattle.gulberzan_c.proofs.stages.admit_in.Statement.{statement}
+use Rattle.gulberzan_c.proofs.stages.admit_in.Tie as tie
+
+-- behind the table: the phase moved to
+moved : (c : tie.After-after-admit) → (c .after-admit .result) ≡ afterAdmit (phaseIn (c .before .before .before .args .queue .now)) (c .before .before .before .args .matched)
+moved c = (c .after-admit .ensures) ∙ ap (λ (p : Phase). afterAdmit p (c .before .before .before .args .matched)) (c .before .phase-at .ensures)
+
+pub admit-in-spec : {M : Type 1} → statement M
+admit-in-spec =
+    tie.close
+    (tie.spec
+    (λ c. search needs)
+    (λ c κs. search needs)
+    (λ c κs. search needs)
+    (λ c κs. search needs)
+    (λ c κs. search needs)
+    (λ c.
+    let at = (c .before .before .before .before) in
+    let a = at .before .before .before .args in
+    (c .move-stage .ensures) ∙ (ap (λ (p : Phase). saidIn (wordsOf (withPhase (queueOf (a .queue .now)) p)) (c .before .before .pending .result)) (moved at) ∙ (ap (saidIn _) ((c .before .before .pending .ensures) ∙ ap isPending (moved at)) ∙ sym (admit-by-moved (a .queue .now) (at .before .before .before .pre) (a .matched))))))

@@ -1,0 +1,30 @@
+-- The stage moved
+use mathlib.Core.Path.{_≡_, sym, ap, _∙_}
+use mathlib.Core.Bool.{Bool, false}
+use Rattle.stage.specs.declared.phases.Phase.{Phase}
+use Rattle.queue_record.specs.Record.{withPhase}
+use Rattle.queue_words.specs.Words.{queueOf, wordsOf}
+use Rattle.queue_words.specs.InPlace.{saidIn}
+use Rattle.stage.specs.Phases.{next}
+use Rattle.stage.specs.declared.phases.Event.the-variants.{Cancel}
+use Rattle.queue_words.proofs.StageWords.{phaseIn, cancel-moved}
+use borrow.Author.Needs.{needs}
+use Rattle.gulberzan_c.proofs.stages.cancel_in.Statement.{statement}
+use Rattle.gulberzan_c.proofs.stages.cancel_in.Tie as tie
+
+-- behind the table: the phase moved to
+moved : (c : tie.After-next-phase) → (c .next-phase .result) ≡ next (phaseIn (c .before .before .before .args .queue .now)) Cancel
+moved c = (c .next-phase .ensures) ∙ ap (λ (p : Phase). next p Cancel) (c .before .phase-at .ensures)
+
+pub cancel-in-spec : {M : Type 1} → statement M
+cancel-in-spec =
+    tie.close
+    (tie.spec
+    (λ c. search needs)
+    (λ c κs. search needs)
+    (λ c κs. search needs)
+    (λ c κs. search needs)
+    (λ c.
+    let at = (c .before .before .before) in
+    let a = at .before .before .before .args in
+    (c .move-stage .ensures) ∙ (ap (λ (p : Phase). saidIn (wordsOf (withPhase (queueOf (a .queue .now)) p)) false) (moved at) ∙ sym (cancel-moved (a .queue .now) (at .before .before .before .pre)))))
