@@ -11,6 +11,10 @@ use borrow.Author.Needs.{needs}
 use Rattle.queue_questions.proofs.questions.nothing_left.Statement.{statement}
 use Rattle.queue_questions.proofs.questions.nothing_left.Tie as tie
 
+-- the places that facts stand at, each as seen from one behind it
+abbrev toStart : tie.After-newest-place → tie.Start
+toStart c = c .before .before .before .before
+
 pub nothing-left-spec : {M : Type 1} → statement M
 nothing-left-spec =
     tie.close
@@ -21,5 +25,9 @@ nothing-left-spec =
     (λ c κs. search needs)
     (λ c. search needs)
     (λ c. search needs)
-    (λ c. sym (ap (λ (s : Selection). nothingLeft s (others s (occupied 0 (now (c .before .before .before .before .before .before .args .slots))))) (c .before .before .before .enum-told .given .1) ∙ newest-left _ _ (sym (c .before .before .newest-place .ensures) ∙ (c .enum-told4 .given .1))))
-    (λ c. sym (ap (λ (s : Selection). nothingLeft s (others s (occupied 0 (now (c .before .before .before .before .before .before .args .slots))))) (c .before .before .before .enum-told .given .1) ∙ ap (nothingLeft Free) (newest-none _ (sym (c .before .before .newest-place .ensures) ∙ (c .enum-told3 .given .1))))))
+    (λ c.
+    sym (ap (λ (s : Selection). nothingLeft s (others s (occupied 0 (now (toStart (c .before .before) .args .slots))))) (c .before .before .before .enum-told .given .1)
+    ∙ newest-left _ _ (sym (c .before .before .newest-place .ensures) ∙ (c .enum-told4 .given .1))))
+    (λ c.
+    sym (ap (λ (s : Selection). nothingLeft s (others s (occupied 0 (now (toStart (c .before .before) .args .slots))))) (c .before .before .before .enum-told .given .1)
+    ∙ ap (nothingLeft Free) (newest-none _ (sym (c .before .before .newest-place .ensures) ∙ (c .enum-told3 .given .1))))))

@@ -16,6 +16,10 @@ use native.Mathlib.Omega.{arith}
 use Rattle.queue_record.proofs.check.well_formed.Statement.{statement}
 use Rattle.queue_record.proofs.check.well_formed.Tie as tie
 
+-- the places that facts stand at, each as seen from one behind it
+abbrev to5 : tie.After-ticket-fits → tie.Else5
+to5 c = c .before .before .before .before
+
 -- ---- the places behind the tests, each as seen from the next: one test more is one line more here
 abbrev start : tie.Else1 → Queue
 start c = c .before .before .args .q
@@ -65,7 +69,9 @@ at-last c = left4 (to4 c) ∙ pass _ (sym (c .before .scope-fits .ensures) ∙ n
 
 -- the token that the ticket names is one of the 64 places
 in-place : (c : tie.Else7) → (c .before .before .before .selection .given .0 .0) .token < 64
-in-place c = ticket-below (asked (c .before .before .before .before .before) .domain) (asked (c .before .before .before .before .before) .count) (asked (c .before .before .before .before .before) .next) (c .before .before .before .selection .given .0 .0) (first (c .before .before .before .before .before) .if1 .left) (sym (c .before .ticket-fits .ensures) ∙ not-false _ (c .if7 .left))
+in-place c =
+    ticket-below (asked (to5 (c .before)) .domain) (asked (to5 (c .before)) .count) (asked (to5 (c .before)) .next)
+    (c .before .before .before .selection .given .0 .0) (first (to5 (c .before)) .if1 .left) (sym (c .before .ticket-fits .ensures) ∙ not-false _ (c .if7 .left))
 
 pub well-formed-spec : {M : Type 1} → statement M
 unfolding wellFormed
@@ -85,10 +91,20 @@ well-formed-spec =
     (λ c. search needs)
     (λ c. search needs)
     (λ c. sym (at-last (c .before .before .before) ∙ (ap (onSelection (asked (c .before .before .before))) (c .before .enum-told .given .1) ∙ stop _ (free-failed _ _ (c .if6 .taken)))))
-    (λ c. sym (at-last (c .before .before .before .before) ∙ (ap (onSelection (asked (c .before .before .before .before))) (c .before .before .enum-told .given .1) ∙ (and-true _ ∙ free-issued _ _ (c .before .if6 .left)))))
+    (λ c.
+    sym (at-last (c .before .before .before .before)
+    ∙ (ap (onSelection (asked (c .before .before .before .before))) (c .before .before .enum-told .given .1) ∙ (and-true _ ∙ free-issued _ _ (c .before .if6 .left)))))
     (λ c κs. search needs)
-    (λ c. sym (at-last (c .before .before .before .before .before) ∙ (ap (onSelection (asked (c .before .before .before .before .before))) (c .before .before .before .selection .given .1) ∙ stop _ (sym (c .before .ticket-fits .ensures) ∙ not-true _ (c .if7 .taken)))))
+    (λ c.
+    sym (at-last (to5 (c .before))
+    ∙ (ap (onSelection (asked (to5 (c .before)))) (c .before .before .before .selection .given .1)
+    ∙ stop _ (sym (c .before .ticket-fits .ensures) ∙ not-true _ (c .if7 .taken)))))
     (λ c. omega (arith, in-place c))
     (λ c. in-place c)
     (λ c κs. search needs)
-    (λ c. (c .slot-fits .ensures) ∙ sym (at-last (c .before .before .before .before .before .before) ∙ (ap (onSelection (asked (c .before .before .before .before .before .before))) (c .before .before .before .before .selection .given .1) ∙ (pass _ (sym (c .before .before .ticket-fits .ensures) ∙ not-false _ (c .before .if7 .left)) ∙ ap (λ (b : Bool). marksFit true (asked (c .before .before .before .before .before .before) .failed) (asked (c .before .before .before .before .before .before) .issued) && b) (and-true _))))))
+    (λ c.
+    (c .slot-fits .ensures)
+    ∙ sym (at-last (to5 (c .before .before))
+    ∙ (ap (onSelection (asked (to5 (c .before .before)))) (c .before .before .before .before .selection .given .1)
+    ∙ (pass _ (sym (c .before .before .ticket-fits .ensures) ∙ not-false _ (c .before .if7 .left))
+    ∙ ap (λ (b : Bool). marksFit true (asked (to5 (c .before .before)) .failed) (asked (to5 (c .before .before)) .issued) && b) (and-true _))))))
