@@ -16,9 +16,9 @@ Inv-loop from question target g i₀ i = firstFrom (asksOf question target) i (d
 abbrev μ-loop : tie.MeasureT-loop
 μ-loop from question target g i₀ i = 16 - i
 
--- the places that facts stand at, each as seen from one behind it
-abbrev toStart : tie.After-place Inv-loop μ-loop → tie.Start Inv-loop μ-loop
-toStart c = c .before .before .before .before
+-- what is asked, as seen from behind the call or the loop
+abbrev asked : tie.After-place Inv-loop μ-loop → tie.Start Inv-loop μ-loop
+asked c = c .before .before .before .before
 
 sixteen : (c : tie.Start Inv-loop μ-loop) → length (c .args .t1 .places) ≡ 16
 sixteen c = simp length-map at (c .good .0 .1 .1 .1 .1 .1 .0 .1 .0 .1)
@@ -34,11 +34,11 @@ first-where-spec =
     (λ c. search needs)
     (λ c κs. search needs)
     (λ c.
-    first-here _ _ _ (sixteen (toStart (c .before .before))) (c .before .before .before .loop-test .taken) (sym (c .before .ask .ensures) ∙ (c .if1 .taken))
+    first-here _ _ _ (sixteen (asked (c .before .before))) (c .before .before .before .loop-test .taken) (sym (c .before .ask .ensures) ∙ (c .if1 .taken))
     ∙ (c .before .before .before .before .loop .inv))
     (λ c. omega arith)
     (λ c. omega arith)
     (λ c.
-    first-past _ _ _ (sixteen (toStart (c .before .before))) (c .before .before .before .loop-test .taken) (sym (c .before .ask .ensures) ∙ (c .if1 .left))
+    first-past _ _ _ (sixteen (asked (c .before .before))) (c .before .before .before .loop-test .taken) (sym (c .before .ask .ensures) ∙ (c .if1 .left))
     ∙ (c .before .before .before .before .loop .inv))
     (λ c. first-end _ _ _ (sixteen (c .before .before .before)) (c .loop-test .left) ∙ (c .before .loop .inv)))

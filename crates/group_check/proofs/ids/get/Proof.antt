@@ -13,9 +13,9 @@ use borrow.Author.Needs.{needs}
 use Rattle.group_check.proofs.ids.get.Statement.{statement}
 use Rattle.group_check.proofs.ids.get.Tie as tie
 
--- the places that facts stand at, each as seen from one behind it
-abbrev toStart : tie.After-spot → tie.Start
-toStart c = c .before .before .before
+-- what is asked, as seen from a refusal
+abbrev askedRefused : tie.After-spot → tie.Start
+askedRefused c = c .before .before .before
 
 sixteen : (c : tie.Start) → length (c .args .g .places) ≡ 16
 sixteen c = simp length-map at (c .good .0 .1 .1 .1 .1 .1 .0 .1 .0 .1)
@@ -45,5 +45,5 @@ get-spec =
     (λ c κs. in-place (c .before))
     (λ c.
     ap (answered _) (c .scope .ensures)
-    ∙ sym (ap (gotAt (toStart (c .before .before) .args .g)) (sym (c .before .before .before .before .look-up .ensures) ∙ (c .before .before .spot .given .1))))
+    ∙ sym (ap (gotAt (askedRefused (c .before .before) .args .g)) (sym (c .before .before .before .before .look-up .ensures) ∙ (c .before .before .spot .given .1))))
     (λ c. ap (answered _) (c .queue-at .ensures) ∙ sym (ap (gotAt (asked (c .before .before) .args .g)) (found (c .before .before)))))

@@ -17,9 +17,9 @@ use borrow.Author.Needs.{needs}
 use Rattle.group_endings.proofs.endings.remove.Statement.{statement}
 use Rattle.group_endings.proofs.endings.remove.Tie as tie
 
--- the places that facts stand at, each as seen from one behind it
-abbrev toStart : tie.After-spot → tie.Start
-toStart c = c .before .before .before
+-- what is asked, as seen from a refusal
+abbrev askedRefused : tie.After-spot → tie.Start
+askedRefused c = c .before .before .before
 
 sixteen : (c : tie.Start) → length (c .args .g .places) ≡ 16
 sixteen c = simp length-map at (c .good .0 .1 .1 .1 .1 .1 .0 .1 .0 .1)
@@ -57,7 +57,9 @@ remove-spec =
     ∙ hit _ (negated ((c .before .before .is-drained .ensures) ∙ ap drained (c .before .before .before .queue-at .ensures)) (c .before .if1 .taken))))
     (λ c κs. search needs)
     (λ c κs. in-place (toSpot (c .before .before)))
-    (λ c. (c .close-refused .ensures) ∙ sym (ap (removedAt (toStart (c .before .before) .args .g)) (sym (c .before .before .before .before .look-up .ensures) ∙ (c .before .before .spot .given .1))))
+    (λ c.
+    (c .close-refused .ensures)
+    ∙ sym (ap (removedAt (askedRefused (c .before .before) .args .g)) (sym (c .before .before .before .before .look-up .ensures) ∙ (c .before .before .spot .given .1))))
     (λ c.
     ap (answered _) ((c .put-place .ensures)
     ∙ ap (λ (p : Place). withPlace (asked (toSpot (c .before .before .before)) .args .g) (toSpot (c .before .before .before) .spot2 .given .0 .0) p)

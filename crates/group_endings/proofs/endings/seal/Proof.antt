@@ -14,9 +14,9 @@ use Rattle.group_endings.proofs.endings.seal.Tie as tie
 abbrev answered : Closed → Groups → CloseAnswer
 answered a g = record { answer = a; groups = g }
 
--- the places that facts stand at, each as seen from one behind it
-abbrev toStart : tie.After-gate → tie.Start
-toStart c = c .before .before .before
+-- what is asked, as seen from a refusal
+abbrev askedRefused : tie.After-gate → tie.Start
+askedRefused c = c .before .before .before
 
 -- behind the gate: the groups that are asked, which are open
 abbrev asked : tie.After-enum-told → Groups
@@ -43,7 +43,7 @@ seal-spec =
     (λ c κs. search needs)
     (λ c.
     (c .close-refused .ensures)
-    ∙ sym (ap (sealedBy (toStart (c .before .before) .args .g)) (sym (c .before .before .before .before .is-unsealed .ensures) ∙ (c .before .before .gate .given .1))))
+    ∙ sym (ap (sealedBy (askedRefused (c .before .before) .args .g)) (sym (c .before .before .before .before .is-unsealed .ensures) ∙ (c .before .before .gate .given .1))))
     (λ c.
     ap (answered _) (c .sealed-of .ensures)
     ∙ sym (ap (sealedBy (asked (c .before .before .before))) (opened (c .before .before .before))

@@ -11,9 +11,9 @@ use borrow.Author.Needs.{needs}
 use Rattle.group_lives.proofs.openings.add.Statement.{statement}
 use Rattle.group_lives.proofs.openings.add.Tie as tie
 
--- the places that facts stand at, each as seen from one behind it
-abbrev toStart : tie.After-spot → tie.Start
-toStart c = c .before .before .before
+-- what is asked, as seen from a refusal
+abbrev askedRefused : tie.After-spot → tie.Start
+askedRefused c = c .before .before .before
 
 sixteen : (c : tie.Start) → length (c .args .g .places) ≡ 16
 sixteen c = simp length-map at (c .good .0 .1 .1 .1 .1 .1 .0 .1 .0 .1)
@@ -39,6 +39,6 @@ add-spec =
     (λ c κs. room-below (asked (c .before) .args .g) _ (sixteen (asked (c .before))) (free-at (c .before)))
     (λ c.
     (c .add-refused .ensures)
-    ∙ sym (ap (addedAt (toStart (c .before .before) .args .g) (toStart (c .before .before) .args .queue))
+    ∙ sym (ap (addedAt (askedRefused (c .before .before) .args .g) (askedRefused (c .before .before) .args .queue))
     (sym (c .before .before .before .before .room .ensures) ∙ (c .before .before .spot .given .1))))
     (λ c. ap (answered _) (c .put-new .ensures) ∙ sym (ap (addedAt (asked (c .before .before) .args .g) (asked (c .before .before) .args .queue)) (free-at (c .before .before)))))

@@ -11,9 +11,9 @@ use borrow.Author.Needs.{needs}
 use Rattle.group_lives.proofs.openings.add_iterator.Statement.{statement}
 use Rattle.group_lives.proofs.openings.add_iterator.Tie as tie
 
--- the places that facts stand at, each as seen from one behind it
-abbrev toStart : tie.After-gate → tie.Start
-toStart c = c .before .before .before .before
+-- what is asked, as seen from a refusal
+abbrev askedRefused : tie.After-gate → tie.Start
+askedRefused c = c .before .before .before .before
 
 -- behind the gate: the groups that are asked, which are open
 abbrev start : tie.After-enum-told → tie.Start
@@ -47,7 +47,7 @@ add-iterator-spec =
     (λ c. search needs)
     (λ c κs. search needs)
     (λ c.
-    let a = toStart (c .before .before) .args in
+    let a = askedRefused (c .before .before) .args in
     (c .add-refused .ensures) ∙ sym (ap (addedIteratorBy (a .g) (now (a .bindings))) (sym (c .before .before .before .before .is-unsealed .ensures) ∙ (c .before .before .gate .given .1))))
     (λ c.
     let g = asked (toGate (c .before .before .before .before)) in

@@ -10,9 +10,9 @@ use borrow.Author.Needs.{needs}
 use Rattle.group_lives.proofs.openings.add_scope.Statement.{statement}
 use Rattle.group_lives.proofs.openings.add_scope.Tie as tie
 
--- the places that facts stand at, each as seen from one behind it
-abbrev toStart : tie.After-gate → tie.Start
-toStart c = c .before .before .before
+-- what is asked, as seen from a refusal
+abbrev askedRefused : tie.After-gate → tie.Start
+askedRefused c = c .before .before .before
 
 -- behind the gate: the groups that are asked, which are open
 abbrev asked : tie.After-enum-told → Groups
@@ -38,7 +38,7 @@ add-scope-spec =
     (λ c κs. search needs)
     (λ c.
     (c .add-refused .ensures)
-    ∙ sym (ap (addedScopeBy (toStart (c .before .before) .args .g))
+    ∙ sym (ap (addedScopeBy (askedRefused (c .before .before) .args .g))
     (sym (c .before .before .before .before .is-unsealed .ensures) ∙ (c .before .before .gate .given .1))))
     (λ c.
     (c .add .ensures) ∙ (ap (λ (q : Queue). added (asked (toGate (c .before))) q) (c .before .scope .ensures)

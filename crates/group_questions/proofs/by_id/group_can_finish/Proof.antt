@@ -9,9 +9,9 @@ use borrow.Author.Needs.{needs}
 use Rattle.group_questions.proofs.by_id.group_can_finish.Statement.{statement}
 use Rattle.group_questions.proofs.by_id.group_can_finish.Tie as tie
 
--- the places that facts stand at, each as seen from one behind it
-abbrev toStart : tie.After-can-finish → tie.Start
-toStart c = c .before .before .before .before
+-- what is asked, as seen from behind the call or the loop
+abbrev asked : tie.After-can-finish → tie.Start
+asked c = c .before .before .before .before
 
 pub group-can-finish-spec : {M : Type 1} → statement M
 group-can-finish-spec =
@@ -22,4 +22,4 @@ group-can-finish-spec =
     (λ c κs. search needs)
     (λ c.
     (c .told-by .ensures) ∙ (ap (λ (d : Told). toldBy ((c .before .before .before .get .result) .answer) d) (c .before .can-finish .ensures)
-    ∙ ap (λ (a : GetAnswer). toldBy (a .answer) (canFinishTold (a .queue) (now (toStart (c .before) .args .target)))) (c .before .before .before .get .ensures))))
+    ∙ ap (λ (a : GetAnswer). toldBy (a .answer) (canFinishTold (a .queue) (now (asked (c .before) .args .target)))) (c .before .before .before .get .ensures))))

@@ -17,9 +17,9 @@ use borrow.Author.Needs.{needs}
 use Rattle.group_stages.proofs.stages.admit.Statement.{statement}
 use Rattle.group_stages.proofs.stages.admit.Tie as tie
 
--- the places that facts stand at, each as seen from one behind it
-abbrev toStart : tie.After-spot → tie.Start
-toStart c = c .before .before .before .before
+-- what is asked, as seen from a refusal
+abbrev askedRefused : tie.After-spot → tie.Start
+askedRefused c = c .before .before .before .before
 
 sixteen : (c : tie.Start) → length (c .args .g .places) ≡ 16
 sixteen c = simp length-map at (c .good .0 .1 .1 .1 .1 .1 .0 .1 .0 .1)
@@ -52,7 +52,7 @@ admit-spec =
     (λ c κs. search needs)
     (λ c κs. in-place (toSpot c))
     (λ c.
-    let a = toStart (c .before) .args in
+    let a = askedRefused (c .before) .args in
     sym (ap (admittedAt (a .g) (now (a .target))) (sym (c .before .before .before .look-up .ensures) ∙ (c .before .spot .given .1))))
     (λ c.
     let a = asked (toSpot (c .before)) .args in

@@ -15,9 +15,9 @@ Inv-loop selection slots count₀ i₀ count i = (count + waitingOf selection (o
 abbrev μ-loop : tie.MeasureT-loop
 μ-loop selection slots count₀ i₀ count i = length slots - i
 
--- the places that facts stand at, each as seen from one behind it
-abbrev toStart : tie.At-loop Inv-loop μ-loop → tie.Start Inv-loop μ-loop
-toStart c = c .before .before
+-- what is asked, as seen from behind the call or the loop
+abbrev asked : tie.At-loop Inv-loop μ-loop → tie.Start Inv-loop μ-loop
+asked c = c .before .before
 
 pub waiting-count-spec : {M : Type 1} → statement M
 unfolding waitingOf
@@ -34,8 +34,8 @@ waiting-count-spec =
     omega (
       arith,
       (c .slot-share .ensures),
-      share-small (toStart (c .before .before .before) .args .selection) (c .before .before .before .loop .i)
-          (getD (toStart (c .before .before .before) .args .slots .now) (c .before .before .before .loop .i) 0),
+      share-small (asked (c .before .before .before) .args .selection) (c .before .before .before .loop .i)
+          (getD (asked (c .before .before .before) .args .slots .now) (c .before .before .before .loop .i) 0),
       (c .before .before .before .loop .inv) .1,
     ))
     (λ c. search needs)
@@ -44,16 +44,16 @@ waiting-count-spec =
       omega (
         arith,
         (c .slot-share .ensures),
-        tally-step (toStart (c .before .before .before) .args .selection)
-            (toStart (c .before .before .before) .args .slots .now) (c .before .before .before .loop .i) (c .before .before .loop-test .taken),
+        tally-step (asked (c .before .before .before) .args .selection)
+            (asked (c .before .before .before) .args .slots .now) (c .before .before .before .loop .i) (c .before .before .loop-test .taken),
         (c .before .before .before .loop .inv) .0,
       ),
       omega (
         arith,
         (c .slot-share .ensures),
-        share-small (toStart (c .before .before .before) .args .selection) (c .before .before .before .loop .i)
-            (getD (toStart (c .before .before .before) .args .slots .now) (c .before .before .before .loop .i) 0),
+        share-small (asked (c .before .before .before) .args .selection) (c .before .before .before .loop .i)
+            (getD (asked (c .before .before .before) .args .slots .now) (c .before .before .before .loop .i) 0),
         (c .before .before .before .loop .inv) .1,
       ),
     ))
-    (λ c. omega (arith, tally-end (toStart (c .before) .args .selection) (toStart (c .before) .args .slots .now) (c .before .loop .i) (c .loop-test .left), (c .before .loop .inv) .0)))
+    (λ c. omega (arith, tally-end (asked (c .before) .args .selection) (asked (c .before) .args .slots .now) (c .before .loop .i) (c .loop-test .left), (c .before .loop .inv) .0)))
