@@ -40,6 +40,7 @@ pub there-from : (says : Place → Bool) (j k : ℕ) (ps : List Place) → isThe
 there-from says j k [] = refl
 there-from says j k (p ∷ ps) = go (says p) (there-from says (suc j) (suc k) ps)
   where
-    go : (b : Bool) → isThere (firstFrom says (suc j) ps) ≡ isThere (firstFrom says (suc k) ps) → isThere (if b then At j else firstFrom says (suc j) ps) ≡ isThere (if b then At k else firstFrom says (suc k) ps)
+    go : (b : Bool) → isThere (firstFrom says (suc j) ps) ≡ isThere (firstFrom says (suc k) ps)
+        → isThere (if b then At j else firstFrom says (suc j) ps) ≡ isThere (if b then At k else firstFrom says (suc k) ps)
     go true e = refl
     go false e = e

@@ -35,7 +35,8 @@ pub spot-means : (g : Groups) (id i : ℕ) → spotOf g id ≡ Spot.At i → (we
 unfolding spotOf
 spot-means g id i e = go (wellGrouped g) refl (firstYes g (Holds id) []) refl e
   where
-    go : (w : Bool) → wellGrouped g ≡ w → (f : Found) → firstYes g (Holds id) [] ≡ f → (if not w then Spot.Refused broken else spotAt f) ≡ Spot.At i → (wellGrouped g ≡ true) × (firstYes g (Holds id) [] ≡ At i)
+    go : (w : Bool) → wellGrouped g ≡ w → (f : Found) → firstYes g (Holds id) [] ≡ f
+        → (if not w then Spot.Refused broken else spotAt f) ≡ Spot.At i → (wellGrouped g ≡ true) × (firstYes g (Holds id) [] ≡ At i)
     go true w (At j) f q = let z : j ≡ i = cc in (w, f ∙ ap (λ (m : ℕ). At m) z)
     go true w Missing f q = let z : _≡_ {A = ℕ} 0 1 = cc in absurd (omega arith)
     go false w f e q = let z : _≡_ {A = ℕ} 0 1 = cc in absurd (omega arith)

@@ -27,7 +27,8 @@ use Rattle.group_lives.specs.Openings.{unsealed, roomAt, roomOf}
 pub unsealed-means : (g : Groups) → unsealed g ≡ Open → (wellGrouped g ≡ true) × (g .sealed ≡ false)
 unsealed-means g e = go (wellGrouped g) refl (g .sealed) refl e
   where
-    go : (w : Bool) → wellGrouped g ≡ w → (s : Bool) → g .sealed ≡ s → (if not w then Opened.Refused broken else if s then Opened.Refused sealed else Open) ≡ Open → (wellGrouped g ≡ true) × (g .sealed ≡ false)
+    go : (w : Bool) → wellGrouped g ≡ w → (s : Bool) → g .sealed ≡ s
+        → (if not w then Opened.Refused broken else if s then Opened.Refused sealed else Open) ≡ Open → (wellGrouped g ≡ true) × (g .sealed ≡ false)
     go true w false s q = (w, s)
     go true w true s q = let z : _≡_ {A = ℕ} 0 1 = cc in absurd (omega arith)
     go false w s t q = let z : _≡_ {A = ℕ} 0 1 = cc in absurd (omega arith)

@@ -38,7 +38,8 @@ ended-is Closed h = clash {b = false} h refl
 abbrev made : Kind → ℕ → ℕ → List ℕ → ℕ → Selection → Bool → Bool → Phase → List ℕ → ℕ → Queue
 made k d n ss c s f i p bs b = record { kind = k; domain = d; next = n; slots = ss; count = c; selection = s; failed = f; issued = i; phase = p; bindings = bs; bound = b }
 
-same-parts : {k k′ : Kind} {d d′ n n′ c c′ b b′ : ℕ} {ss ss′ bs bs′ : List ℕ} {s s′ : Selection} {f f′ i i′ : Bool} {p p′ : Phase} → k ≡ k′ → d ≡ d′ → n ≡ n′ → ss ≡ ss′ → c ≡ c′ → s ≡ s′ → f ≡ f′ → i ≡ i′ → p ≡ p′ → bs ≡ bs′ → b ≡ b′ → made k d n ss c s f i p bs b ≡ made k′ d′ n′ ss′ c′ s′ f′ i′ p′ bs′ b′
+same-parts : {k k′ : Kind} {d d′ n n′ c c′ b b′ : ℕ} {ss ss′ bs bs′ : List ℕ} {s s′ : Selection} {f f′ i i′ : Bool} {p p′ : Phase} → k ≡ k′ → d ≡ d′
+    → n ≡ n′ → ss ≡ ss′ → c ≡ c′ → s ≡ s′ → f ≡ f′ → i ≡ i′ → p ≡ p′ → bs ≡ bs′ → b ≡ b′ → made k d n ss c s f i p bs b ≡ made k′ d′ n′ ss′ c′ s′ f′ i′ p′ bs′ b′
 same-parts k d n ss c s f i p bs b = rw (k, d, n, ss, c, s, f, i, p, bs, b)
 
 pub blank-passes : isBlank blank ≡ true

@@ -48,7 +48,10 @@ fit q h = record {
 
 pub fits : (q : Queue) → Fit q → wellFormed q ≡ true
 unfolding wellFormed
-fits q f = pass _ (le-leb _ _ (f .count)) ∙ (pass _ (le-leb _ _ (f .given .bound)) ∙ (pass _ (f .slots) ∙ (pass _ (f .given .bindings) ∙ (pass _ (f .scope) ∙ (pass _ (f .ticket) ∙ (pass _ (f .marks) ∙ pass _ (f .selected)))))))
+fits q f =
+    pass _ (le-leb _ _ (f .count))
+    ∙ (pass _ (le-leb _ _ (f .given .bound))
+    ∙ (pass _ (f .slots) ∙ (pass _ (f .given .bindings) ∙ (pass _ (f .scope) ∙ (pass _ (f .ticket) ∙ (pass _ (f .marks) ∙ pass _ (f .selected)))))))
 
 -- ---- the selected ticket
 module _ (domain count next : ℕ) (t : Ticket) where

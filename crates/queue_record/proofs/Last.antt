@@ -48,7 +48,9 @@ seen : (xs : List ℕ) (k j : ℕ) (f : Found) → lastOr f (occupied k xs) ≡ 
 seen [] k j f h = inl h
 seen (x ∷ xs) k j f h = go (eqb x 0) refl h (seen xs (suc k) j f) (seen xs (suc k) j (At k))
   where
-    go : (b : Bool) → eqb x 0 ≡ b → lastOr f (if b then occupied (suc k) xs else k ∷ occupied (suc k) xs) ≡ At j → (lastOr f (occupied (suc k) xs) ≡ At j → (f ≡ At j) ⊎ Seen xs (suc k) j) → (lastOr (At k) (occupied (suc k) xs) ≡ At j → (At k ≡ At j) ⊎ Seen xs (suc k) j) → (f ≡ At j) ⊎ Seen (x ∷ xs) k j
+    go : (b : Bool) → eqb x 0 ≡ b → lastOr f (if b then occupied (suc k) xs else k ∷ occupied (suc k) xs) ≡ At j
+        → (lastOr f (occupied (suc k) xs) ≡ At j → (f ≡ At j) ⊎ Seen xs (suc k) j)
+        → (lastOr (At k) (occupied (suc k) xs) ≡ At j → (At k ≡ At j) ⊎ Seen xs (suc k) j) → (f ≡ At j) ⊎ Seen (x ∷ xs) k j
     go true e h r r′ = ⊎-elim (λ p. inl p) (λ s. inr (later x xs k j s)) (r h)
     go false e h r r′ = ⊎-elim (λ p. let q : k ≡ j = cc in inr (0, omega arith, eqb-false x 0 e)) (λ s. inr (later x xs k j s)) (r′ h)
 
@@ -86,11 +88,15 @@ last-apart [] k j h = let w : _≡_ {A = ℕ} 0 1 = cc in absurd (omega arith)
 last-apart (x ∷ xs) k j h = go (eqb x 0) h (last-apart xs (suc k) j) (λ e. seen-here xs (suc k) j e)
   where
     -- behind the place k: nothing, or what is found is behind it too
-    first : (rest : List ℕ) → lastOr (At k) rest ≡ At j → (lastOr Missing rest ≡ At j → rest ≡ without j rest ++ (j ∷ [])) → (lastOr Missing rest ≡ At j → j ≡ k → ⊥) → k ∷ rest ≡ without j (k ∷ rest) ++ (j ∷ [])
+    first : (rest : List ℕ) → lastOr (At k) rest ≡ At j → (lastOr Missing rest ≡ At j → rest ≡ without j rest ++ (j ∷ []))
+        → (lastOr Missing rest ≡ At j → j ≡ k → ⊥) → k ∷ rest ≡ without j (k ∷ rest) ++ (j ∷ [])
     first [] h r n = let e : k ≡ j = cc in ap (λ (m : ℕ). m ∷ []) e ∙ ap (λ (l : List ℕ). l ++ (j ∷ [])) (sym (without-skip j k [] e))
     first (r₀ ∷ rs) h r n = ap (λ (l : List ℕ). k ∷ l) (r h) ∙ ap (λ (l : List ℕ). l ++ (j ∷ [])) (sym (without-keep j k (r₀ ∷ rs) (λ e. n h (sym e))))
 
-    go : (b : Bool) → lastOr Missing (if b then occupied (suc k) xs else k ∷ occupied (suc k) xs) ≡ At j → (lastOr Missing (occupied (suc k) xs) ≡ At j → occupied (suc k) xs ≡ without j (occupied (suc k) xs) ++ (j ∷ [])) → (lastOr Missing (occupied (suc k) xs) ≡ At j → Seen xs (suc k) j) → (if b then occupied (suc k) xs else k ∷ occupied (suc k) xs) ≡ without j (if b then occupied (suc k) xs else k ∷ occupied (suc k) xs) ++ (j ∷ [])
+    go : (b : Bool) → lastOr Missing (if b then occupied (suc k) xs else k ∷ occupied (suc k) xs) ≡ At j
+        → (lastOr Missing (occupied (suc k) xs) ≡ At j → occupied (suc k) xs ≡ without j (occupied (suc k) xs) ++ (j ∷ []))
+        → (lastOr Missing (occupied (suc k) xs) ≡ At j → Seen xs (suc k) j)
+        → (if b then occupied (suc k) xs else k ∷ occupied (suc k) xs) ≡ without j (if b then occupied (suc k) xs else k ∷ occupied (suc k) xs) ++ (j ∷ [])
     go true h r s = r h
     go false h r s = first (occupied (suc k) xs) h r (λ e p. let w = s e in let q : j ≡ suc k + w .0 = w .1 in omega arith)
 

@@ -40,7 +40,8 @@ filled-more given i l h =
 pub filled-all : (given : List ℕ) (i : ℕ) → length given ≤ 16 → length given ≤ i → i ≤ length given → filled given i ≡ kept given
 filled-all given i l h k =
     let e : i ≡ length given = omega arith in
-    ap (filled given) e ∙ (ap (λ (xs : List ℕ). xs ++ drop (0 + length given) (replicate 16 0)) (take-all (length given) given (omega arith)) ∙ ap (λ (xs : List ℕ). given ++ xs) (drop-replicate (0 + length given) 16 ∙ ap (λ (n : ℕ). replicate (16 - n) 0) zero-less))
+    ap (filled given) e ∙ (ap (λ (xs : List ℕ). xs ++ drop (0 + length given) (replicate 16 0)) (take-all (length given) given (omega arith))
+    ∙ ap (λ (xs : List ℕ). given ++ xs) (drop-replicate (0 + length given) 16 ∙ ap (λ (n : ℕ). replicate (16 - n) 0) zero-less))
   where
     zero-less : 0 + length given ≡ length given
     zero-less = omega arith

@@ -39,7 +39,8 @@ pub without-append : (t : ℕ) (ks js : List ℕ) → without t (ks ++ js) ≡ w
 without-append t [] js = refl
 without-append t (k ∷ ks) js = go (eqb k t) (without-append t ks js)
   where
-    go : (b : Bool) → without t (ks ++ js) ≡ without t ks ++ without t js → (if b then without t (ks ++ js) else k ∷ without t (ks ++ js)) ≡ (if b then without t ks else k ∷ without t ks) ++ without t js
+    go : (b : Bool) → without t (ks ++ js) ≡ without t ks ++ without t js
+        → (if b then without t (ks ++ js) else k ∷ without t (ks ++ js)) ≡ (if b then without t ks else k ∷ without t ks) ++ without t js
     go true rest = rest
     go false rest = ap (λ (l : List ℕ). k ∷ l) rest
 

@@ -8,6 +8,10 @@ use borrow.Author.Needs.{needs}
 use Rattle.group_asking.proofs.questions.is_finishing.Statement.{statement}
 use Rattle.group_asking.proofs.questions.is_finishing.Tie as tie
 
+-- the places behind the tests, each as seen from the next
+abbrev to1 : tie.Else3 → tie.Else1
+to1 c = c .before .before
+
 pub is-finishing-spec : {M : Type 1} → statement M
 is-finishing-spec =
     tie.close
@@ -18,4 +22,8 @@ is-finishing-spec =
     (λ c. sym (pass _ (ap not (sym (c .before .before .before .pending .ensures) ∙ (c .before .before .if1 .left))) ∙ (pass _ (ap not (c .before .if2 .left)) ∙ either _ (eq-eqb _ _ (c .if3 .taken)))))
     (λ c κs. search needs)
     (λ c κs. search needs)
-    (λ c. (c .is-yes .ensures) ∙ (ap isYes (c .before .can-finish .ensures) ∙ sym (pass _ (ap not (sym (c .before .before .before .before .before .pending .ensures) ∙ (c .before .before .before .before .if1 .left))) ∙ (pass _ (ap not (c .before .before .before .if2 .left)) ∙ other _ (ne-eqb _ _ (c .before .before .if3 .left)))))))
+    (λ c.
+    (c .is-yes .ensures)
+    ∙ (ap isYes (c .before .can-finish .ensures)
+    ∙ sym (pass _ (ap not (sym (to1 (c .before .before) .before .pending .ensures) ∙ (to1 (c .before .before) .if1 .left)))
+    ∙ (pass _ (ap not (c .before .before .before .if2 .left)) ∙ other _ (ne-eqb _ _ (c .before .before .if3 .left)))))))

@@ -16,6 +16,10 @@ Inv-loop from question target g i₀ i = firstFrom (asksOf question target) i (d
 abbrev μ-loop : tie.MeasureT-loop
 μ-loop from question target g i₀ i = 16 - i
 
+-- what is asked, as seen from behind the call or the loop
+abbrev asked : tie.After-place Inv-loop μ-loop → tie.Start Inv-loop μ-loop
+asked c = c .before .before .before .before
+
 sixteen : (c : tie.Start Inv-loop μ-loop) → length (c .args .t1 .places) ≡ 16
 sixteen c = simp length-map at (c .good .0 .1 .1 .1 .1 .1 .0 .1 .0 .1)
 
@@ -29,8 +33,12 @@ first-where-spec =
     (λ c. omega arith)
     (λ c. search needs)
     (λ c κs. search needs)
-    (λ c. first-here _ _ _ (sixteen (c .before .before .before .before .before .before)) (c .before .before .before .loop-test .taken) (sym (c .before .ask .ensures) ∙ (c .if1 .taken)) ∙ (c .before .before .before .before .loop .inv))
+    (λ c.
+    first-here _ _ _ (sixteen (asked (c .before .before))) (c .before .before .before .loop-test .taken) (sym (c .before .ask .ensures) ∙ (c .if1 .taken))
+    ∙ (c .before .before .before .before .loop .inv))
     (λ c. omega arith)
     (λ c. omega arith)
-    (λ c. first-past _ _ _ (sixteen (c .before .before .before .before .before .before)) (c .before .before .before .loop-test .taken) (sym (c .before .ask .ensures) ∙ (c .if1 .left)) ∙ (c .before .before .before .before .loop .inv))
+    (λ c.
+    first-past _ _ _ (sixteen (asked (c .before .before))) (c .before .before .before .loop-test .taken) (sym (c .before .ask .ensures) ∙ (c .if1 .left))
+    ∙ (c .before .before .before .before .loop .inv))
     (λ c. first-end _ _ _ (sixteen (c .before .before .before)) (c .loop-test .left) ∙ (c .before .loop .inv)))

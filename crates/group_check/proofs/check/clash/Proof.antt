@@ -19,4 +19,8 @@ clash-spec =
     (λ c. search needs)
     (λ c. search needs)
     (λ c κs. search needs)
-    (λ c. (c .some-from .ensures) ∙ (there-from (asksOf (Holds (c .before .before .before .before .args .place .id)) []) (c .before .before .before .before .args .from) 0 (drop (c .before .before .before .before .args .from) (c .before .before .before .before .args .g .places)) ∙ sym (pass _ (not-false (c .before .before .before .before .args .place .live) (c .before .before .if1 .left))))))
+    (λ c.
+    (c .some-from .ensures)
+    ∙ (there-from (asksOf (Holds (c .before .before .before .before .args .place .id)) []) (c .before .before .before .before .args .from) 0
+    (drop (c .before .before .before .before .args .from) (c .before .before .before .before .args .g .places))
+    ∙ sym (pass _ (not-false (c .before .before .before .before .args .place .live) (c .before .before .if1 .left))))))

@@ -15,6 +15,10 @@ Inv-loop g i₀ i = distinctIds (drop i (g .places)) ≡ distinctIds (g .places)
 abbrev μ-loop : tie.MeasureT-loop
 μ-loop g i₀ i = 16 - i
 
+-- what is asked, as seen from behind the call or the loop
+abbrev asked : tie.After-clash Inv-loop μ-loop → tie.Start Inv-loop μ-loop
+asked c = c .before .before .before .before
+
 sixteen : (c : tie.Start Inv-loop μ-loop) → length (c .args .t1 .places) ≡ 16
 sixteen c = simp length-map at (c .good .0 .1 .1 .1 .1 .1 .0 .1 .0 .1)
 
@@ -29,8 +33,12 @@ distinct-ids-spec =
     (λ c. search needs)
     (λ c. omega arith)
     (λ c κs. search needs)
-    (λ c. distinct-hit _ _ (sixteen (c .before .before .before .before .before)) (c .before .before .before .loop-test .taken) (sym (c .before .clash .ensures) ∙ (c .if1 .taken)) ∙ (c .before .before .before .before .loop .inv))
+    (λ c.
+    distinct-hit _ _ (sixteen (asked (c .before))) (c .before .before .before .loop-test .taken) (sym (c .before .clash .ensures) ∙ (c .if1 .taken))
+    ∙ (c .before .before .before .before .loop .inv))
     (λ c. omega arith)
     (λ c. omega arith)
-    (λ c. distinct-past _ _ (sixteen (c .before .before .before .before .before)) (c .before .before .before .loop-test .taken) (sym (c .before .clash .ensures) ∙ (c .if1 .left)) ∙ (c .before .before .before .before .loop .inv))
+    (λ c.
+    distinct-past _ _ (sixteen (asked (c .before))) (c .before .before .before .loop-test .taken) (sym (c .before .clash .ensures) ∙ (c .if1 .left))
+    ∙ (c .before .before .before .before .loop .inv))
     (λ c. distinct-end _ _ (sixteen (c .before .before)) (c .loop-test .left) ∙ (c .before .loop .inv)))

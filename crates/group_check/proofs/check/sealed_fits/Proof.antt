@@ -16,4 +16,7 @@ sealed-fits-spec =
     (tie.spec
     (λ c. sym (ap (λ (b : Bool). implies b (not (someYes (c .before .before .args .g) Live []))) (not-true (c .before .before .args .g .sealed) (c .if1 .taken))))
     (λ c κs. search needs)
-    (λ c. ap not (c .some .ensures) ∙ sym (ap (λ (b : Bool). implies b (not (someYes (c .before .before .before .args .g) Live []))) (not-false (c .before .before .before .args .g .sealed) (c .before .if1 .left)))))
+    (λ c.
+    ap not (c .some .ensures)
+    ∙ sym (ap (λ (b : Bool). implies b (not (someYes (c .before .before .before .args .g) Live [])))
+    (not-false (c .before .before .before .args .g .sealed) (c .before .if1 .left)))))

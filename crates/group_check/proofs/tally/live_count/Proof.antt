@@ -30,5 +30,10 @@ live-count-spec =
     (λ c. omega arith)
     (λ c. omega arith)
     (λ c. omega arith)
-    (λ c. ⊎-elim (λ w. rw (w .1) (counts-live _ _ _ (sixteen (c .before .before .before .before)) (c .before .before .loop-test .taken) (w .0 .taken) (c .before .before .before .loop .inv))) (λ w. rw (w .1) (counts-free _ _ _ (sixteen (c .before .before .before .before)) (c .before .before .loop-test .taken) (w .0 .left) (c .before .before .before .loop .inv))) (c .if1 .came))
+    (λ c.
+    ⊎-elim (λ w. rw (w .1) (counts-live _ _ _ (sixteen (c .before .before .before .before))
+    (c .before .before .loop-test .taken) (w .0 .taken) (c .before .before .before .loop .inv)))
+    (λ w. rw (w .1) (counts-free _ _ _ (sixteen (c .before .before .before .before))
+    (c .before .before .loop-test .taken) (w .0 .left) (c .before .before .before .loop .inv)))
+    (c .if1 .came))
     (λ c. counts-all _ _ _ (sixteen (c .before .before)) (c .loop-test .left) (c .before .loop .inv)))

@@ -27,4 +27,8 @@ new-spec =
     (λ c κs. search needs)
     (λ c κs. search needs)
     (λ c κs. (omega arith, none-yet _ _ (c .empty2 .ensures)))
-    (λ c. ap (answered _) ((c .put-new .ensures) ∙ (ap (λ (h : Groups). opening h 0 (c .before .before .scope .result)) (c .before .empty2 .ensures) ∙ ap (λ (q : Queue). opening (emptyOf (c .before .before .before .before .args .base)) 0 q) (c .before .before .scope .ensures))) ∙ sym (miss _ (le-ltb _ _ (c .before .before .before .if1 .left)))))
+    (λ c.
+    ap (answered _) ((c .put-new .ensures)
+    ∙ (ap (λ (h : Groups). opening h 0 (c .before .before .scope .result)) (c .before .empty2 .ensures)
+    ∙ ap (λ (q : Queue). opening (emptyOf (c .before .before .before .before .args .base)) 0 q) (c .before .before .scope .ensures)))
+    ∙ sym (miss _ (le-ltb _ _ (c .before .before .before .if1 .left)))))

@@ -15,4 +15,6 @@ group-can-retry-spec =
     (λ c κs. search needs)
     (λ c κs. search needs)
     (λ c κs. search needs)
-    (λ c. (c .told-by .ensures) ∙ (ap (λ (d : Told). toldBy ((c .before .before .before .get .result) .answer) d) (c .before .can-retry .ensures) ∙ ap (λ (a : GetAnswer). toldBy (a .answer) (canRetryTold (a .queue))) (c .before .before .before .get .ensures))))
+    (λ c.
+    (c .told-by .ensures) ∙ (ap (λ (d : Told). toldBy ((c .before .before .before .get .result) .answer) d) (c .before .can-retry .ensures)
+    ∙ ap (λ (a : GetAnswer). toldBy (a .answer) (canRetryTold (a .queue))) (c .before .before .before .get .ensures))))

@@ -15,4 +15,6 @@ group-domain-spec =
     (λ c κs. search needs)
     (λ c κs. search needs)
     (λ c κs. search needs)
-    (λ c. (c .domain-by .ensures) ∙ (ap (λ (d : DomainTold). domainBy ((c .before .before .before .get .result) .answer) d) (c .before .domain .ensures) ∙ ap (λ (a : GetAnswer). domainBy (a .answer) (domainTold (a .queue))) (c .before .before .before .get .ensures))))
+    (λ c.
+    (c .domain-by .ensures) ∙ (ap (λ (d : DomainTold). domainBy ((c .before .before .before .get .result) .answer) d) (c .before .domain .ensures)
+    ∙ ap (λ (a : GetAnswer). domainBy (a .answer) (domainTold (a .queue))) (c .before .before .before .get .ensures))))

@@ -15,4 +15,6 @@ group-has-failed-spec =
     (λ c κs. search needs)
     (λ c κs. search needs)
     (λ c κs. search needs)
-    (λ c. (c .told-by .ensures) ∙ (ap (λ (d : Told). toldBy ((c .before .before .before .get .result) .answer) d) (c .before .has-failed .ensures) ∙ ap (λ (a : GetAnswer). toldBy (a .answer) (hasFailedTold (a .queue))) (c .before .before .before .get .ensures))))
+    (λ c.
+    (c .told-by .ensures) ∙ (ap (λ (d : Told). toldBy ((c .before .before .before .get .result) .answer) d) (c .before .has-failed .ensures)
+    ∙ ap (λ (a : GetAnswer). toldBy (a .answer) (hasFailedTold (a .queue))) (c .before .before .before .get .ensures))))

@@ -15,4 +15,6 @@ group-is-issued-spec =
     (λ c κs. search needs)
     (λ c κs. search needs)
     (λ c κs. search needs)
-    (λ c. (c .told-by .ensures) ∙ (ap (λ (d : Told). toldBy ((c .before .before .before .get .result) .answer) d) (c .before .is-issued .ensures) ∙ ap (λ (a : GetAnswer). toldBy (a .answer) (isIssuedTold (a .queue))) (c .before .before .before .get .ensures))))
+    (λ c.
+    (c .told-by .ensures) ∙ (ap (λ (d : Told). toldBy ((c .before .before .before .get .result) .answer) d) (c .before .is-issued .ensures)
+    ∙ ap (λ (a : GetAnswer). toldBy (a .answer) (isIssuedTold (a .queue))) (c .before .before .before .get .ensures))))

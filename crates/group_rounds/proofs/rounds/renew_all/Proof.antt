@@ -34,5 +34,11 @@ renew-all-spec =
     (λ c. search needs)
     (λ c. omega arith)
     (λ c. omega arith)
-    (λ c. ap (λ (h : Groups). withPlace h (c .before .before .before .loop .i) (c .renew .result)) (c .before .before .before .loop .inv) ∙ ap (withPlaces (c .before .before .before .before .args .t1)) (ap (λ (p : Place). set (halfway (c .before .before .before .before .args .t1 .places) (c .before .before .before .loop .i)) (c .before .before .before .loop .i) p) (c .renew .ensures) ∙ halfway-more (c .before .before .before .before .args .t1 .places) (c .before .before .before .loop .i) (sixteen (c .before .before .before .before)) (c .before .before .loop-test .taken)))
+    (λ c.
+    ap (λ (h : Groups). withPlace h (c .before .before .before .loop .i) (c .renew .result)) (c .before .before .before .loop .inv)
+    ∙ ap (withPlaces (c .before .before .before .before .args .t1))
+    (ap (λ (p : Place). set (halfway (c .before .before .before .before .args .t1 .places) (c .before .before .before .loop .i)) (c .before .before .before .loop .i) p)
+    (c .renew .ensures)
+    ∙ halfway-more (c .before .before .before .before .args .t1 .places) (c .before .before .before .loop .i)
+    (sixteen (c .before .before .before .before)) (c .before .before .loop-test .taken)))
     (λ c. (c .before .loop .inv) ∙ ap (withPlaces (c .before .before .args .t1)) (halfway-all (c .before .before .args .t1 .places) _ (sixteen (c .before .before)) (c .loop-test .left))))

@@ -17,4 +17,7 @@ retry-all-spec =
     (λ c κs. search needs)
     (λ c. sym (miss _ (negated (c .before .before .before .well-grouped .ensures) (c .before .before .if1 .left)) ∙ hit _ (negated (c .before .may-retry-all .ensures) (c .if2 .taken))))
     (λ c κs. search needs)
-    (λ c. ap (roundDone Yes) (c .renew-all .ensures) ∙ sym (miss _ (negated (c .before .before .before .before .well-grouped .ensures) (c .before .before .before .if1 .left)) ∙ miss _ (negated (c .before .before .may-retry-all .ensures) (c .before .if2 .left)))))
+    (λ c.
+    ap (roundDone Yes) (c .renew-all .ensures)
+    ∙ sym (miss _ (negated (c .before .before .before .before .well-grouped .ensures) (c .before .before .before .if1 .left))
+    ∙ miss _ (negated (c .before .before .may-retry-all .ensures) (c .before .if2 .left)))))

@@ -1,9 +1,12 @@
 -- Refused, or the queue steps and is put back
+use Prim.Native.Nat.{_<_}
 use mathlib.Core.Path.{_≡_, sym, ap, _∙_}
 use lib.ListN.{length, length-map}
 use Rattle.queue_record.specs.declared.record.Queue.{Queue}
 use Rattle.queue_stages.specs.Stages.{admitted}
 use Rattle.queue_questions.specs.declared.questions.Told.{Told}
+use Rattle.group_check.specs.Ids.{spotOf}
+use Rattle.group_check.specs.declared.ids.Spot.{Spot}
 use Rattle.group_check.proofs.Spots.{spot-below}
 use Rattle.group_record.specs.declared.record.Groups.{Groups}
 use Rattle.group_stages.specs.Stages.{movedAt, admittedAtWithout, admittedInWithout}
@@ -16,6 +19,19 @@ use Rattle.group_stages.proofs.stages.admit_without.Tie as tie
 sixteen : (c : tie.Start) → length (c .args .g .places) ≡ 16
 sixteen c = simp length-map at (c .good .0 .1 .1 .1 .1 .1 .0 .1 .0 .1)
 
+-- behind the look-up: what was asked, and the spot that was found, which is one of the 16
+abbrev asked : tie.After-spot2 → tie.Start
+asked c = c .before .before .before
+
+found : (c : tie.After-spot2) → spotOf (asked c .args .g) (asked c .args .id) ≡ Spot.At (c .spot2 .given .0 .0)
+found c = sym (c .before .before .look-up .ensures) ∙ (c .spot2 .given .1)
+
+in-place : (c : tie.After-spot2) → (c .spot2 .given .0 .0) < 16
+in-place c = spot-below _ _ _ (sixteen (asked c)) (found c)
+
+abbrev toSpot : tie.After-queue → tie.After-spot2
+toSpot c = c .before .before .before .before
+
 abbrev answered : Told → Groups → GroupStageAnswer
 answered a g = record { answer = a; groups = g }
 
@@ -27,8 +43,12 @@ admit-without-spec =
     (λ c κs. search needs)
     (λ c. search needs)
     (λ c. search needs)
-    (λ c κs. spot-below _ _ _ (sixteen (c .before .before .before .before)) (sym (c .before .before .before .look-up .ensures) ∙ (c .before .spot2 .given .1)))
+    (λ c κs. in-place (c .before))
     (λ c κs. search needs)
-    (λ c κs. spot-below _ _ _ (sixteen (c .before .before .before .before .before .before .before)) (sym (c .before .before .before .before .before .before .look-up .ensures) ∙ (c .before .before .before .before .spot2 .given .1)))
+    (λ c κs. in-place (toSpot c))
     (λ c. sym (ap (admittedAtWithout (c .before .before .before .before .args .g)) (sym (c .before .before .before .look-up .ensures) ∙ (c .before .spot .given .1))))
-    (λ c. ap (answered _) (c .put-queue .ensures) ∙ (ap (movedAt (c .before .before .before .before .before .before .before .before .args .g) _) ((c .before .before .admit-without .ensures) ∙ ap (λ (q : Queue). admitted q false) (c .before .before .before .queue-at .ensures)) ∙ sym (ap (admittedAtWithout (c .before .before .before .before .before .before .before .before .args .g)) (sym (c .before .before .before .before .before .before .before .look-up .ensures) ∙ (c .before .before .before .before .before .spot2 .given .1))))))
+    (λ c.
+    let g = asked (toSpot (c .before)) .args .g in
+    ap (answered _) (c .put-queue .ensures)
+    ∙ (ap (movedAt g _) ((c .before .before .admit-without .ensures) ∙ ap (λ (q : Queue). admitted q false) (c .before .before .before .queue-at .ensures))
+    ∙ sym (ap (admittedAtWithout g) (found (toSpot (c .before)))))))

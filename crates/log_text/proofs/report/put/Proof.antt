@@ -24,7 +24,13 @@ put-spec =
     (λ c. (paste-zero (c .args .out .now) (c .args .at) (c .args .bytes .now), omega arith))
     (λ c. omega arith)
     (λ c. omega (arith, (c .before .before .before .pre), (c .before .loop-test .taken)))
-    (λ c. omega (arith, paste-length _ _ _ _ _ ((c .before .before .loop .inv) .0) (c .before .before .before .pre) ((c .before .before .loop .inv) .1), (c .before .before .before .pre), (c .before .loop-test .taken)))
+    (λ c.
+    omega (
+      arith,
+      paste-length _ _ _ _ _ ((c .before .before .loop .inv) .0) (c .before .before .before .pre) ((c .before .before .loop .inv) .1),
+      (c .before .before .before .pre),
+      (c .before .loop-test .taken),
+    ))
     (λ c. search needs)
     (λ c. search needs)
     (λ c. (paste-next _ _ _ _ _ ((c .before .before .loop .inv) .0) (c .before .before .before .pre) (c .before .loop-test .taken), omega arith))

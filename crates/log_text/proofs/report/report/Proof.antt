@@ -5,6 +5,16 @@ use borrow.Author.Needs.{needs}
 use Rattle.log_text.proofs.report.report.Statement.{statement}
 use Rattle.log_text.proofs.report.report.Tie as tie
 
+-- ---- the three parts, each as seen from the next
+abbrev asked : tie.After-put → tie.Start
+asked c = c .before .before .before .before
+
+abbrev toNames : tie.After-six → tie.After-put
+toNames c = c .before .before .before .before
+
+abbrev toSix : tie.After-put-number-arg2 → tie.After-put-fields
+toSix c = c .before .before .before .before
+
 pub report-spec : {M : Type 1} → statement M
 unfolding names
 report-spec =
@@ -16,12 +26,14 @@ report-spec =
     (λ c κs. search needs)
     (λ c. search needs)
     (λ c κs.
-    let a = c .before .before .before .before .before .before .before .before .before .before .before .before .before .args in
-    let at-put = c .before .before .before .before .before .before .before .before .before .put in
-    last-fits (a .f) (a .out .now) (c .before .before .before .before .before .before .before .before .before .before .before .before .before .pre) _ _ _ _ ((at-put .ensures) .0) ((at-put .ensures) .1) ((c .before .before .before .before .put-fields .ensures) .0) ((c .before .before .before .before .put-fields .ensures) .1))
+    let a = asked (toNames (toSix c .before)) .args in
+    let n = toNames (toSix c .before) .put .ensures in
+    let f = toSix c .put-fields .ensures in
+    last-fits (a .f) (a .out .now) (asked (toNames (toSix c .before)) .pre) _ _ _ _ (n .0) (n .1) (f .0) (f .1))
     (λ c. search needs)
     (λ c.
-    let a = c .before .before .before .before .before .before .before .before .before .before .before .before .before .before .before .before .args in
-    let at-put = c .before .before .before .before .before .before .before .before .before .before .before .before .put in
-    let at-put-fields = c .before .before .before .before .before .before .before .put-fields in
-    reported (a .f) (a .out .now) (c .before .before .before .before .before .before .before .before .before .before .before .before .before .before .before .before .pre) _ _ _ _ ((at-put .ensures) .0) ((at-put .ensures) .1) ((at-put-fields .ensures) .0) ((at-put-fields .ensures) .1) _ _ ((c .before .before .put-number .ensures) .0) ((c .before .before .put-number .ensures) .1)))
+    let a = asked (toNames (toSix (c .before .before .before) .before)) .args in
+    let n = toNames (toSix (c .before .before .before) .before) .put .ensures in
+    let f = toSix (c .before .before .before) .put-fields .ensures in
+    let e = c .before .before .put-number .ensures in
+    reported (a .f) (a .out .now) (asked (toNames (toSix (c .before .before .before) .before)) .pre) _ _ _ _ (n .0) (n .1) (f .0) (f .1) _ _ (e .0) (e .1)))

@@ -15,6 +15,12 @@ scope-fits-spec =
     (λ c. search needs)
     (λ c. search needs)
     (λ c. search needs)
-    (λ c. sym (ap (λ (k : Kind). scopeFits k ((c .before .before .before .args .bound)) ((c .before .before .before .args .phase))) (c .before .enum-told .given .1) ∙ stop _ (ne-eqb _ _ (c .if1 .taken))))
+    (λ c.
+    sym (ap (λ (k : Kind). scopeFits k ((c .before .before .before .args .bound)) ((c .before .before .before .args .phase))) (c .before .enum-told .given .1)
+    ∙ stop _ (ne-eqb _ _ (c .if1 .taken))))
     (λ c κs. search needs)
-    (λ c. (c .settled .ensures) ∙ sym (ap (λ (k : Kind). scopeFits k ((c .before .before .before .before .args .bound)) ((c .before .before .before .before .args .phase))) (c .before .before .enum-told .given .1) ∙ pass _ (eq-eqb _ _ (c .before .if1 .left)))))
+    (λ c.
+    (c .settled .ensures)
+    ∙ sym (ap (λ (k : Kind). scopeFits k ((c .before .before .before .before .args .bound)) ((c .before .before .before .before .args .phase)))
+    (c .before .before .enum-told .given .1)
+    ∙ pass _ (eq-eqb _ _ (c .before .if1 .left)))))

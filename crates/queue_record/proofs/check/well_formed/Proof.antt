@@ -11,6 +11,7 @@ use Rattle.queue_record.proofs.Marks.{free-failed, free-issued}
 use Rattle.queue_record.proofs.Fit.{ticket-below}
 use Rattle.queue_record.specs.declared.record.Queue.{Queue}
 use Rattle.queue_record.specs.declared.record.Selection.{Selection}
+use Rattle.queue_record.specs.declared.record.Selection.the-variants.{Free, Of}
 use borrow.Author.Needs.{needs}
 use native.Mathlib.Omega.{arith}
 use Rattle.queue_record.proofs.check.well_formed.Statement.{statement}
@@ -63,9 +64,31 @@ onSelection q s = allTrue (ticketFits (q .domain) (q .count) (q .next) s ∷ mar
 at-last : (c : tie.Else5) → wellFormed (asked c) ≡ onSelection (asked c) (asked c .selection)
 at-last c = left4 (to4 c) ∙ pass _ (sym (c .before .scope-fits .ensures) ∙ not-false _ (c .if5 .left))
 
--- the token that the ticket names is one of the 64 places
-in-place : (c : tie.Else7) → (c .before .before .before .selection .given .0 .0) .token < 64
-in-place c = ticket-below (asked (c .before .before .before .before .before) .domain) (asked (c .before .before .before .before .before) .count) (asked (c .before .before .before .before .before) .next) (c .before .before .before .selection .given .0 .0) (first (c .before .before .before .before .before) .if1 .left) (sym (c .before .ticket-fits .ensures) ∙ not-false _ (c .if7 .left))
+-- ---- behind the reading of the selection: nothing selected, or a ticket
+abbrev none5 : tie.After-enum-told → tie.Else5
+none5 c = c .before .before
+
+with-none : (c : tie.After-enum-told) → wellFormed (asked (none5 c)) ≡ onSelection (asked (none5 c)) Free
+with-none c = at-last (none5 c) ∙ ap (onSelection (asked (none5 c))) (c .enum-told .given .1)
+
+abbrev to5 : tie.After-selection → tie.Else5
+to5 c = c .before .before
+
+with-ticket : (c : tie.After-selection) → wellFormed (asked (to5 c)) ≡ onSelection (asked (to5 c)) (Of (c .selection .given .0 .0))
+with-ticket c = at-last (to5 c) ∙ ap (onSelection (asked (to5 c))) (c .selection .given .1)
+
+-- behind the test of the ticket: it fits, and its token is one of the 64 places
+abbrev toTicket : tie.Else7 → tie.After-selection
+toTicket c = c .before .before .before
+
+abbrev own : tie.Else7 → Queue
+own c = asked (to5 (toTicket c))
+
+fits : (c : tie.Else7) → ticketFits (own c .domain) (own c .count) (own c .next) (Of (toTicket c .selection .given .0 .0)) ≡ true
+fits c = sym (c .before .ticket-fits .ensures) ∙ not-false _ (c .if7 .left)
+
+in-place : (c : tie.Else7) → (toTicket c .selection .given .0 .0) .token < 64
+in-place c = ticket-below (own c .domain) (own c .count) (own c .next) (toTicket c .selection .given .0 .0) (first (to5 (toTicket c)) .if1 .left) (fits c)
 
 pub well-formed-spec : {M : Type 1} → statement M
 unfolding wellFormed
@@ -84,11 +107,14 @@ well-formed-spec =
     (λ c. sym (left4 (c .before .before) ∙ stop _ (sym (c .before .scope-fits .ensures) ∙ not-true _ (c .if5 .taken))))
     (λ c. search needs)
     (λ c. search needs)
-    (λ c. sym (at-last (c .before .before .before) ∙ (ap (onSelection (asked (c .before .before .before))) (c .before .enum-told .given .1) ∙ stop _ (free-failed _ _ (c .if6 .taken)))))
-    (λ c. sym (at-last (c .before .before .before .before) ∙ (ap (onSelection (asked (c .before .before .before .before))) (c .before .before .enum-told .given .1) ∙ (and-true _ ∙ free-issued _ _ (c .before .if6 .left)))))
+    (λ c. sym (with-none (c .before) ∙ stop _ (free-failed _ _ (c .if6 .taken))))
+    (λ c. sym (with-none (c .before .before) ∙ (and-true _ ∙ free-issued _ _ (c .before .if6 .left))))
     (λ c κs. search needs)
-    (λ c. sym (at-last (c .before .before .before .before .before) ∙ (ap (onSelection (asked (c .before .before .before .before .before))) (c .before .before .before .selection .given .1) ∙ stop _ (sym (c .before .ticket-fits .ensures) ∙ not-true _ (c .if7 .taken)))))
+    (λ c. sym (with-ticket (c .before .before .before) ∙ stop _ (sym (c .before .ticket-fits .ensures) ∙ not-true _ (c .if7 .taken))))
     (λ c. omega (arith, in-place c))
     (λ c. in-place c)
     (λ c κs. search needs)
-    (λ c. (c .slot-fits .ensures) ∙ sym (at-last (c .before .before .before .before .before .before) ∙ (ap (onSelection (asked (c .before .before .before .before .before .before))) (c .before .before .before .before .selection .given .1) ∙ (pass _ (sym (c .before .before .ticket-fits .ensures) ∙ not-false _ (c .before .if7 .left)) ∙ ap (λ (b : Bool). marksFit true (asked (c .before .before .before .before .before .before) .failed) (asked (c .before .before .before .before .before .before) .issued) && b) (and-true _))))))
+    (λ c.
+    (c .slot-fits .ensures)
+    ∙ sym (with-ticket (toTicket (c .before))
+    ∙ (pass _ (fits (c .before)) ∙ ap (λ (b : Bool). marksFit true (own (c .before) .failed) (own (c .before) .issued) && b) (and-true _)))))

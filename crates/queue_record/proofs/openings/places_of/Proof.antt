@@ -27,5 +27,10 @@ places-of-spec =
     (λ c. search needs)
     (λ c. search needs)
     (λ c. search needs)
-    (λ c. (ap (λ (xs : List ℕ). set xs ((c .before .before .loop .i)) (getD ((c .before .before .before .args .given .now)) ((c .before .before .loop .i)) 0)) ((c .before .before .loop .inv .0)) ∙ filled-more _ _ (c .before .before .before .pre) (c .before .loop-test .taken), search needs))
+    (λ c. (
+      ap (λ (xs : List ℕ). set xs ((c .before .before .loop .i)) (getD ((c .before .before .before .args .given .now)) ((c .before .before .loop .i)) 0))
+          ((c .before .before .loop .inv .0))
+          ∙ filled-more _ _ (c .before .before .before .pre) (c .before .loop-test .taken),
+      search needs,
+    ))
     (λ c. (c .before .loop .inv .0) ∙ filled-all _ _ (c .before .before .pre) (c .loop-test .left) (c .before .loop .inv .1)))

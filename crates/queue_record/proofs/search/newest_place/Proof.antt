@@ -27,5 +27,9 @@ newest-place-spec =
     (λ c. search needs)
     (λ c. search needs)
     (λ c. search needs)
-    (λ c. ⊎-elim (λ w. rw (w .1) (last-hit _ _ (c .before .before .before .loop .found) (c .before .before .loop-test .taken) (w .0 .taken) ∙ (c .before .before .before .loop .inv))) (λ w. rw (w .1) (last-pass _ _ (c .before .before .before .loop .found) (c .before .before .loop-test .taken) (w .0 .left) ∙ (c .before .before .before .loop .inv))) (c .if1 .came))
+    (λ c.
+    ⊎-elim (λ w. rw (w .1) (last-hit _ _ (c .before .before .before .loop .found) (c .before .before .loop-test .taken) (w .0 .taken)
+    ∙ (c .before .before .before .loop .inv)))
+    (λ w. rw (w .1) (last-pass _ _ (c .before .before .before .loop .found) (c .before .before .loop-test .taken) (w .0 .left) ∙ (c .before .before .before .loop .inv)))
+    (c .if1 .came))
     (λ c. sym (last-end _ _ (c .before .loop .found) (c .loop-test .left)) ∙ (c .before .loop .inv)))

@@ -15,6 +15,10 @@ Inv-loop selection slots count₀ i₀ count i = (count + waitingOf selection (o
 abbrev μ-loop : tie.MeasureT-loop
 μ-loop selection slots count₀ i₀ count i = length slots - i
 
+-- what is asked, as seen from behind the call or the loop
+abbrev asked : tie.At-loop Inv-loop μ-loop → tie.Start Inv-loop μ-loop
+asked c = c .before .before
+
 pub waiting-count-spec : {M : Type 1} → statement M
 unfolding waitingOf
 waiting-count-spec =
@@ -26,8 +30,30 @@ waiting-count-spec =
     (λ c. search needs)
     (λ c. search needs)
     (λ c κs. search needs)
-    (λ c. omega (arith, (c .slot-share .ensures), share-small (c .before .before .before .before .before .args .selection) (c .before .before .before .loop .i) (getD (c .before .before .before .before .before .args .slots .now) (c .before .before .before .loop .i) 0), (c .before .before .before .loop .inv) .1))
+    (λ c.
+    omega (
+      arith,
+      (c .slot-share .ensures),
+      share-small (asked (c .before .before .before) .args .selection) (c .before .before .before .loop .i)
+          (getD (asked (c .before .before .before) .args .slots .now) (c .before .before .before .loop .i) 0),
+      (c .before .before .before .loop .inv) .1,
+    ))
     (λ c. search needs)
     (λ c. search needs)
-    (λ c. (omega (arith, (c .slot-share .ensures), tally-step (c .before .before .before .before .before .args .selection) (c .before .before .before .before .before .args .slots .now) (c .before .before .before .loop .i) (c .before .before .loop-test .taken), (c .before .before .before .loop .inv) .0), omega (arith, (c .slot-share .ensures), share-small (c .before .before .before .before .before .args .selection) (c .before .before .before .loop .i) (getD (c .before .before .before .before .before .args .slots .now) (c .before .before .before .loop .i) 0), (c .before .before .before .loop .inv) .1)))
-    (λ c. omega (arith, tally-end (c .before .before .before .args .selection) (c .before .before .before .args .slots .now) (c .before .loop .i) (c .loop-test .left), (c .before .loop .inv) .0)))
+    (λ c. (
+      omega (
+        arith,
+        (c .slot-share .ensures),
+        tally-step (asked (c .before .before .before) .args .selection)
+            (asked (c .before .before .before) .args .slots .now) (c .before .before .before .loop .i) (c .before .before .loop-test .taken),
+        (c .before .before .before .loop .inv) .0,
+      ),
+      omega (
+        arith,
+        (c .slot-share .ensures),
+        share-small (asked (c .before .before .before) .args .selection) (c .before .before .before .loop .i)
+            (getD (asked (c .before .before .before) .args .slots .now) (c .before .before .before .loop .i) 0),
+        (c .before .before .before .loop .inv) .1,
+      ),
+    ))
+    (λ c. omega (arith, tally-end (asked (c .before) .args .selection) (asked (c .before) .args .slots .now) (c .before .loop .i) (c .loop-test .left), (c .before .loop .inv) .0)))

@@ -16,4 +16,6 @@ admit-by-spec =
     (λ c κs. search needs)
     (λ c κs. search needs)
     (λ c κs. search needs)
-    (λ c. staged-by ((c .before .say .ensures) ∙ ap yesOrNo ((c .before .before .pending .ensures) ∙ ap isPending (c .before .before .before .after-admit .ensures))) ((c .move-to .ensures) ∙ ap (withPhase (c .before .before .before .before .args .q)) (c .before .before .before .after-admit .ensures))))
+    (λ c.
+    staged-by ((c .before .say .ensures) ∙ ap yesOrNo ((c .before .before .pending .ensures) ∙ ap isPending (c .before .before .before .after-admit .ensures)))
+    ((c .move-to .ensures) ∙ ap (withPhase (c .before .before .before .before .args .q)) (c .before .before .before .after-admit .ensures))))

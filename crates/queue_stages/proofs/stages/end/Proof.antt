@@ -1,13 +1,26 @@
 -- Refused, or what was pending told and the stage moved
-use mathlib.Core.Path.{sym, ap, _∙_}
+use mathlib.Core.Path.{_≡_, sym, ap, _∙_}
+use mathlib.Core.Bool.{false, not}
 use Rattle.choice.proofs.Ways.{hit, miss, negated}
 use Rattle.queue_record.specs.Record.{withPhase}
 use Rattle.queue_questions.specs.Questions.{yesOrNo}
 use Rattle.queue_stages.specs.Stages.{ended}
 use Rattle.queue_stages.proofs.Staged.{staged-by}
+use Rattle.queue_record.specs.WellFormed.{wellFormed}
+use Rattle.queue_record.specs.declared.record.Queue.{Queue}
 use borrow.Author.Needs.{needs}
 use Rattle.queue_stages.proofs.stages.end.Statement.{statement}
 use Rattle.queue_stages.proofs.stages.end.Tie as tie
+
+-- behind the check: the record that is asked, which is well formed
+abbrev asked : tie.Else1 → Queue
+asked c = c .before .before .args .q
+
+passed : (c : tie.Else1) → not (wellFormed (asked c)) ≡ false
+passed c = negated (c .before .well-formed .ensures) (c .if1 .left)
+
+abbrev to1 : tie.After-next-phase → tie.Else1
+to1 c = c .before .before .before
 
 pub end-spec : {M : Type 1} → statement M
 unfolding ended
@@ -21,4 +34,7 @@ end-spec =
     (λ c κs. search needs)
     (λ c κs. search needs)
     (λ c κs. search needs)
-    (λ c. staged-by ((c .before .before .say .ensures) ∙ ap yesOrNo (c .before .before .before .pending .ensures)) ((c .move-to .ensures) ∙ ap (withPhase (c .before .before .before .before .before .before .args .q)) (c .before .next-phase .ensures)) ∙ sym (miss _ (negated (c .before .before .before .before .before .well-formed .ensures) (c .before .before .before .before .if1 .left)))))
+    (λ c.
+    staged-by ((c .before .before .say .ensures) ∙ ap yesOrNo (c .before .before .before .pending .ensures))
+    ((c .move-to .ensures) ∙ ap (withPhase (asked (to1 (c .before)))) (c .before .next-phase .ensures))
+    ∙ sym (miss _ (passed (to1 (c .before))))))

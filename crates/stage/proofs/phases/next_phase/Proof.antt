@@ -8,7 +8,7 @@ use Rattle.stage.proofs.phases.next_phase.Statement.{statement}
 use Rattle.stage.proofs.phases.next_phase.Tie as tie
 
 -- the two numbers are a row and a column of the table
-row : (c : tie.After-event-number) → c .before .phase-number .result < 5
+row : (c : tie.After-event-number) → (c .before .phase-number .result) < 5
 row c = rw (c .before .phase-number .ensures) (phase-below (c .before .before .args .phase))
 
 column : (c : tie.After-event-number) → c .event-number .result < 4
@@ -25,4 +25,7 @@ next-phase-spec =
     (λ c. row c)
     (λ c. column c)
     (λ c κs. search needs)
-    (λ c. c .phase-at .ensures ∙ looked-up (c .before .before .before .before .args .phase) (c .before .before .before .before .args .event) _ _ (c .before .before .before .phase-number .ensures) (c .before .before .event-number .ensures)))
+    (λ c.
+    c .phase-at .ensures
+    ∙ looked-up (c .before .before .before .before .args .phase) (c .before .before .before .before .args .event) _ _
+    (c .before .before .before .phase-number .ensures) (c .before .before .event-number .ensures)))

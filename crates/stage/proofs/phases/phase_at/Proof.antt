@@ -12,5 +12,9 @@ phase-at-spec =
     (λ c. sym (hit _ (eq-eqb _ _ (c .if1 .taken))))
     (λ c. sym (miss _ (ne-eqb _ _ (c .before .if1 .left)) ∙ hit _ (eq-eqb _ _ (c .if2 .taken))))
     (λ c. sym (miss _ (ne-eqb _ _ (c .before .before .if1 .left)) ∙ (miss _ (ne-eqb _ _ (c .before .if2 .left)) ∙ hit _ (eq-eqb _ _ (c .if3 .taken)))))
-    (λ c. sym (miss _ (ne-eqb _ _ (c .before .before .before .if1 .left)) ∙ (miss _ (ne-eqb _ _ (c .before .before .if2 .left)) ∙ (miss _ (ne-eqb _ _ (c .before .if3 .left)) ∙ hit _ (eq-eqb _ _ (c .if4 .taken))))))
-    (λ c. sym (miss _ (ne-eqb _ _ (c .before .before .before .if1 .left)) ∙ (miss _ (ne-eqb _ _ (c .before .before .if2 .left)) ∙ (miss _ (ne-eqb _ _ (c .before .if3 .left)) ∙ miss _ (ne-eqb _ _ (c .if4 .left)))))))
+    (λ c.
+    sym (miss _ (ne-eqb _ _ (c .before .before .before .if1 .left))
+    ∙ (miss _ (ne-eqb _ _ (c .before .before .if2 .left)) ∙ (miss _ (ne-eqb _ _ (c .before .if3 .left)) ∙ hit _ (eq-eqb _ _ (c .if4 .taken))))))
+    (λ c.
+    sym (miss _ (ne-eqb _ _ (c .before .before .before .if1 .left))
+    ∙ (miss _ (ne-eqb _ _ (c .before .before .if2 .left)) ∙ (miss _ (ne-eqb _ _ (c .before .if3 .left)) ∙ miss _ (ne-eqb _ _ (c .if4 .left)))))))
