@@ -93,7 +93,10 @@ module _ (g : Groups) (l : length (g .places) ≡ 16) where
 
   -- can_retry_all: some live group has failed, and each that has may be retried
   pub retries-means : retriesAll g ≡ true → SomeLive g (λ id q. q .failed) × EveryLive g (λ id q. not (stuck q))
-  retries-means h = (some-means g l Failed [] (λ _ _. refl) (and-left (someYes g Failed []) (not (someYes g Stuck [])) h), none-means g l Stuck [] (λ _ _. refl) (not-true _ (and-right (someYes g Failed []) (not (someYes g Stuck [])) h)))
+  retries-means h = (
+    some-means g l Failed [] (λ _ _. refl) (and-left (someYes g Failed []) (not (someYes g Stuck [])) h),
+    none-means g l Stuck [] (λ _ _. refl) (not-true _ (and-right (someYes g Failed []) (not (someYes g Stuck [])) h)),
+  )
 
   pub retry-all-means : canRetryAllOf g ≡ Yes → SomeLive g (λ id q. q .failed) × EveryLive g (λ id q. not (stuck q))
   retry-all-means h = retries-means (told-yes g (retriesAll g) h .1)

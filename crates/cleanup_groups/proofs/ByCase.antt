@@ -83,11 +83,14 @@ module _ (P : AddAnswer → Type 0) (g : Groups) (refused : (n : ℕ) → (n ≡
   unfolding addedScope
   scope-by there = by-gate P (addedScopeBy g) (unsealed g) (λ n e. refused n (gate-numbered g n e)) (λ u. put-by (scopeOf (nextDomain g) 0) (λ i e. there i u e))
 
-  pub iterator-by : (bindings : List ℕ) → ((i : ℕ) → unsealed g ≡ Open → length bindings ≤ 16 → roomOf g ≡ Spot.At i → P (addedAt g (iteratorOf (nextDomain g) 0 bindings) (Spot.At i))) → P (addedIterator g bindings)
+  pub iterator-by : (bindings : List ℕ)
+      → ((i : ℕ) → unsealed g ≡ Open → length bindings ≤ 16 → roomOf g ≡ Spot.At i → P (addedAt g (iteratorOf (nextDomain g) 0 bindings) (Spot.At i)))
+      → P (addedIterator g bindings)
   unfolding addedIterator iteratorOpened
   iterator-by bindings there =
       by-gate P (addedIteratorBy g bindings) (unsealed g) (λ n e. refused n (gate-numbered g n e))
-      (λ u. if-by (λ (o : OpenAnswer). P (addedQueue g (o .queue) (o .answer))) (ltb 16 (length bindings)) _ _ (λ _. refused 14 (λ z. omega arith)) (λ b. put-by (iteratorOf (nextDomain g) 0 bindings) (λ i e. there i u (ltb-false _ _ b) e)))
+      (λ u. if-by (λ (o : OpenAnswer). P (addedQueue g (o .queue) (o .answer))) (ltb 16 (length bindings)) _ _
+      (λ _. refused 14 (λ z. omega arith)) (λ b. put-by (iteratorOf (nextDomain g) 0 bindings) (λ i e. there i u (ltb-false _ _ b) e)))
 
 -- ---- close and seal: refused, or done
 module _ (P : CloseAnswer → Type 0) (g : Groups) (refused : (n : ℕ) → (n ≡ done → ⊥) → P (refusedClose g n)) where
@@ -119,8 +122,12 @@ module _ (P : Groups → Type 0) (g : Groups)
     (round : wellGrouped g ≡ true → retriesAll g ≡ true → P (allRetried g)) where
   pub call-by : (c : Call) → P (after g c)
   unfolding registeredIn landedIn poppedIn completedIn retriedIn admittedIn admittedInWithout endedIn cancelledIn retriedAll scopeOf iteratorOf
-  call-by addScope = scope-by (λ (r : AddAnswer). P (r .groups)) g (λ _ _. stay) (λ i u e. grow i _ u e (record { sound = scope-well-formed (nextDomain g) 0; domain = refl; sized = scope-sized (nextDomain g) 0 }))
-  call-by (addIterator bindings) = iterator-by (λ (r : AddAnswer). P (r .groups)) g (λ _ _. stay) bindings (λ i u b e. grow i _ u e (record { sound = iterator-well-formed (nextDomain g) 0 bindings b; domain = refl; sized = iterator-sized (nextDomain g) 0 bindings b }))
+  call-by addScope =
+      scope-by (λ (r : AddAnswer). P (r .groups)) g (λ _ _. stay)
+      (λ i u e. grow i _ u e (record { sound = scope-well-formed (nextDomain g) 0; domain = refl; sized = scope-sized (nextDomain g) 0 }))
+  call-by (addIterator bindings) =
+      iterator-by (λ (r : AddAnswer). P (r .groups)) g (λ _ _. stay) bindings
+      (λ i u b e. grow i _ u e (record { sound = iterator-well-formed (nextDomain g) 0 bindings b; domain = refl; sized = iterator-sized (nextDomain g) 0 bindings b }))
   call-by (remove id) = close-by (λ (r : CloseAnswer). P (r .groups)) g (λ _ _. stay) id (λ i e d. close id i e d)
   call-by seal = seal-by (λ (r : CloseAnswer). P (r .groups)) g (λ _ _. stay) shut
   call-by (register id n) = by-spot P (λ s. registeredAt g n s .groups) (spotOf g id) (λ _ _. stay) (λ i e. step id i e (queue.register n))
@@ -132,4 +139,6 @@ module _ (P : Groups → Type 0) (g : Groups)
   call-by (admitWithout id) = by-spot P (λ s. admittedAtWithout g s .groups) (spotOf g id) (λ _ _. stay) (λ i e. step id i e (queue.admit false))
   call-by (end id) = by-spot P (λ s. endedAt g s .groups) (spotOf g id) (λ _ _. stay) (λ i e. step id i e queue.end)
   call-by (cancel id) = by-spot P (λ s. cancelledAt g s .groups) (spotOf g id) (λ _ _. stay) (λ i e. step id i e queue.cancel)
-  call-by retryAll = if-by (λ (r : RetryAllAnswer). P (r .groups)) (not (wellGrouped g)) _ _ (λ _. stay) (λ w. if-by (λ (r : RetryAllAnswer). P (r .groups)) (not (retriesAll g)) _ _ (λ _. stay) (λ t. round (not-false _ w) (not-false _ t)))
+  call-by retryAll =
+      if-by (λ (r : RetryAllAnswer). P (r .groups)) (not (wellGrouped g)) _ _ (λ _. stay)
+      (λ w. if-by (λ (r : RetryAllAnswer). P (r .groups)) (not (retriesAll g)) _ _ (λ _. stay) (λ t. round (not-false _ w) (not-false _ t)))

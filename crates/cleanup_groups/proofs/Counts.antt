@@ -60,7 +60,8 @@ pub count-none : (ps : List Place) → liveCount ps ≡ 0 → (i : ℕ) → i < 
 count-none [] h i l = absurd (omega arith)
 count-none (p ∷ ps) h i l = go (p .live) refl (sym (count-head p ps) ∙ h) (count-none ps) i l
   where
-    go : (b : Bool) → p .live ≡ b → one b + liveCount ps ≡ 0 → (liveCount ps ≡ 0 → (i : ℕ) → i < length ps → getD ps i nowhere .live ≡ false) → (i : ℕ) → i < suc (length ps) → getD (p ∷ ps) i nowhere .live ≡ false
+    go : (b : Bool) → p .live ≡ b → one b + liveCount ps ≡ 0 → (liveCount ps ≡ 0 → (i : ℕ) → i < length ps → getD ps i nowhere .live ≡ false)
+        → (i : ℕ) → i < suc (length ps) → getD (p ∷ ps) i nowhere .live ≡ false
     go true e s r i l = absurd (omega arith)
     go false e s r zero l = e
     go false e s r (suc i) l = r (omega arith) i (omega arith)
@@ -91,7 +92,11 @@ module _ (g : Groups) (l : length (g .places) ≡ 16) where
   scope-counts n = scope-by (Counts n) g (λ _ _ h. let z : _≡_ {A = ℕ} 0 1 = cc in absurd (omega arith)) (λ i _ e _. let k = room-free g i l e in count-opened g i l (k .0) _ (k .1))
 
   pub iterator-counts : (n : ℕ) (bindings : List ℕ) → Counts n (addedIterator g bindings)
-  iterator-counts n bindings = iterator-by (Counts n) g (λ _ _ h. let z : _≡_ {A = ℕ} 0 1 = cc in absurd (omega arith)) bindings (λ i _ _ e _. let k = room-free g i l e in count-opened g i l (k .0) _ (k .1))
+  iterator-counts n bindings =
+      iterator-by (Counts n) g (λ _ _ h. let z : _≡_ {A = ℕ} 0 1 = cc in absurd (omega arith)) bindings
+      (λ i _ _ e _. let k = room-free g i l e in count-opened g i l (k .0) _ (k .1))
 
   pub close-counts : (id : ℕ) → removed g id .answer ≡ Done → liveCount (removed g id .groups .places) + 1 ≡ liveCount (g .places)
-  close-counts id = close-by (λ (r : CloseAnswer). r .answer ≡ Done → liveCount (r .groups .places) + 1 ≡ liveCount (g .places)) g (λ _ _ h. let z : _≡_ {A = ℕ} 0 1 = cc in absurd (omega arith)) id (λ i e _ _. let k = spot-live g id i l e in count-closed g i l (k .0) (k .1))
+  close-counts id =
+      close-by (λ (r : CloseAnswer). r .answer ≡ Done → liveCount (r .groups .places) + 1 ≡ liveCount (g .places)) g
+      (λ _ _ h. let z : _≡_ {A = ℕ} 0 1 = cc in absurd (omega arith)) id (λ i e _ _. let k = spot-live g id i l e in count-closed g i l (k .0) (k .1))

@@ -66,7 +66,8 @@ means-drained q w n = pass _ (ap isYes (means-empty q w (n .selection) (n .waiti
 
 -- ---- closing
 -- it was live, with nothing left, and its place is free
-pub close-means : (g : Groups) (id : ℕ) → length (g .places) ≡ 16 → removed g id .answer ≡ Done → (i : ℕ) × (spotOf g id ≡ Spot.At i) × Nothing (queueAt g i) × (removed g id .groups ≡ withPlace g i freePlace)
+pub close-means : (g : Groups) (id : ℕ) → length (g .places) ≡ 16 → removed g id .answer ≡ Done
+    → (i : ℕ) × (spotOf g id ≡ Spot.At i) × Nothing (queueAt g i) × (removed g id .groups ≡ withPlace g i freePlace)
 close-means g id l =
     close-by (λ (r : CloseAnswer). r .answer ≡ Done → (i : ℕ) × (spotOf g id ≡ Spot.At i) × Nothing (queueAt g i) × (r .groups ≡ withPlace g i freePlace)) g
     (λ _ _ h. let z : _≡_ {A = ℕ} 0 1 = cc in absurd (omega arith)) id

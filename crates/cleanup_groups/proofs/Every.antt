@@ -20,7 +20,9 @@ module _ (says : Place → Bool) where
   none-each k [] h i l = absurd (omega arith)
   none-each k (p ∷ ps) h i l = go (says p) refl h (none-each (suc k) ps) i l
     where
-      go : (b : Bool) → says p ≡ b → isThere (if b then At k else firstFrom says (suc k) ps) ≡ false → (isThere (firstFrom says (suc k) ps) ≡ false → (i : ℕ) → i < length ps → says (getD ps i nowhere) ≡ false) → (i : ℕ) → i < suc (length ps) → says (getD (p ∷ ps) i nowhere) ≡ false
+      go : (b : Bool) → says p ≡ b → isThere (if b then At k else firstFrom says (suc k) ps) ≡ false
+          → (isThere (firstFrom says (suc k) ps) ≡ false → (i : ℕ) → i < length ps → says (getD ps i nowhere) ≡ false)
+          → (i : ℕ) → i < suc (length ps) → says (getD (p ∷ ps) i nowhere) ≡ false
       go true e h r i l = clash {b = true} refl h
       go false e h r zero l = e
       go false e h r (suc i) l = r h i (omega arith)
@@ -38,7 +40,9 @@ module _ (says : Place → Bool) where
   found-says k [] i h = let z : _≡_ {A = ℕ} 0 1 = cc in absurd (omega arith)
   found-says k (p ∷ ps) i h = go (says p) refl h (found-says (suc k) ps i)
     where
-      go : (b : Bool) → says p ≡ b → (if b then At k else firstFrom says (suc k) ps) ≡ At i → (firstFrom says (suc k) ps ≡ At i → (m : ℕ) × (i ≡ suc k + m) × (m < length ps) × (says (getD ps m nowhere) ≡ true)) → (m : ℕ) × (i ≡ k + m) × (m < suc (length ps)) × (says (getD (p ∷ ps) m nowhere) ≡ true)
+      go : (b : Bool) → says p ≡ b → (if b then At k else firstFrom says (suc k) ps) ≡ At i
+          → (firstFrom says (suc k) ps ≡ At i → (m : ℕ) × (i ≡ suc k + m) × (m < length ps) × (says (getD ps m nowhere) ≡ true))
+          → (m : ℕ) × (i ≡ k + m) × (m < suc (length ps)) × (says (getD (p ∷ ps) m nowhere) ≡ true)
       go true e h r = let z : k ≡ i = cc in (0, omega arith, omega arith, e)
       go false e h r = let w = r h in let s : i ≡ suc k + w .0 = w .1 in let l : w .0 < length ps = w .2 in (suc (w .0), omega arith, omega arith, w .3)
 
@@ -62,7 +66,8 @@ module _ (says : Place → Bool) where
   found-lowest k [] i h m l = let z : _≡_ {A = ℕ} 0 1 = cc in absurd (omega arith)
   found-lowest k (p ∷ ps) i h m l = go (says p) refl h (found-lowest (suc k) ps i) m l
     where
-      go : (b : Bool) → says p ≡ b → (if b then At k else firstFrom says (suc k) ps) ≡ At i → (firstFrom says (suc k) ps ≡ At i → (m : ℕ) → suc k + m < i → says (getD ps m nowhere) ≡ false) → (m : ℕ) → k + m < i → says (getD (p ∷ ps) m nowhere) ≡ false
+      go : (b : Bool) → says p ≡ b → (if b then At k else firstFrom says (suc k) ps) ≡ At i
+          → (firstFrom says (suc k) ps ≡ At i → (m : ℕ) → suc k + m < i → says (getD ps m nowhere) ≡ false) → (m : ℕ) → k + m < i → says (getD (p ∷ ps) m nowhere) ≡ false
       go true e h r m l = let z : k ≡ i = cc in absurd (omega arith)
       go false e h r zero l = e
       go false e h r (suc m) l = r h m (omega arith)

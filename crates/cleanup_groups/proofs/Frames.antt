@@ -45,7 +45,9 @@ live-frame g h id f w = (w .0, w .1, sym (f .marks (w .0)) ∙ w .2, sym (f .ids
 module _ (g : Groups) (l : length (g .places) ≡ 16) (id : ℕ) where
   -- whichever call: refused it leaves the record, else it leaves another queue at the id's place
   framed : (f : Spot → Groups) (q : ℕ → Queue) → ((n : ℕ) → f (Spot.Refused n) ≡ g) → ((i : ℕ) → f (Spot.At i) ≡ withQueue g i (q i)) → Frame g (f (spotOf g id))
-  framed f q r s = by-spot (λ (h : Groups). Frame g h) f (spotOf g id) (λ n _. subst (Frame g) (sym (r n)) (frame-same g)) (λ i e. subst (Frame g) (sym (s i)) (queue-frame g i (q i) l (spot-live g id i l e .0)))
+  framed f q r s =
+      by-spot (λ (h : Groups). Frame g h) f (spotOf g id) (λ n _. subst (Frame g) (sym (r n)) (frame-same g))
+      (λ i e. subst (Frame g) (sym (s i)) (queue-frame g i (q i) l (spot-live g id i l e .0)))
 
   pub register-frame : (n : ℕ) → Frame g (registeredIn g id n .groups)
   unfolding registeredIn

@@ -40,7 +40,9 @@ next-rises g c = call-by (λ (h : Groups). g .next ≤ h .next) g same (λ _ _ _
 module _ (g : Groups) (l : length (g .places) ≡ 16) (id : ℕ) where
   -- with another place at i: it was live before, or it is the new one
   other-live : (i : ℕ) (p : Place) → i < 16 → IsLive (withPlace g i p) id → IsLive g id ⊎ ((p .live ≡ true) × (p .id ≡ id))
-  other-live i p k w = by-place g i p l k (λ (q : Place). q .live ≡ true → q .id ≡ id → IsLive g id ⊎ ((p .live ≡ true) × (p .id ≡ id))) (w .0) (λ _ a e. inr (a, e)) (λ _ a e. inl (w .0, w .1, a, e)) (w .2) (w .3)
+  other-live i p k w =
+      by-place g i p l k (λ (q : Place). q .live ≡ true → q .id ≡ id → IsLive g id ⊎ ((p .live ≡ true) × (p .id ≡ id))) (w .0)
+      (λ _ a e. inr (a, e)) (λ _ a e. inl (w .0, w .1, a, e)) (w .2) (w .3)
 
   -- whoever is live after a call was live before it, or has the id that was next
   pub live-from : (c : Call) → IsLive (after g c) id → IsLive g id ⊎ (id ≡ g .next)

@@ -148,7 +148,8 @@ retried-length [] = refl
 retried-length (p ∷ ps) = ap suc (retried-length ps)
 
 -- a place after the round: retried where it is live and has failed, else as it was
-pub by-round : (P : Place → Type 0) (g : Groups) (i : ℕ) → (LiveAt g i → queueAt g i .failed ≡ true → P (holding (placeAt g i) (retried (queueAt g i) .queue))) → ((placeAt g i .live && queueAt g i .failed) ≡ false → P (placeAt g i)) → P (placeAt (allRetried g) i)
+pub by-round : (P : Place → Type 0) (g : Groups) (i : ℕ) → (LiveAt g i → queueAt g i .failed ≡ true → P (holding (placeAt g i) (retried (queueAt g i) .queue)))
+    → ((placeAt g i .live && queueAt g i .failed) ≡ false → P (placeAt g i)) → P (placeAt (allRetried g) i)
 by-round P g i f h =
     subst P (sym (retried-at (g .places) i))
     (if-by P (placeAt g i .live && queueAt g i .failed) _ _ (λ e. f (and-left (placeAt g i .live) (queueAt g i .failed) e) (and-right (placeAt g i .live) (queueAt g i .failed) e)) h)
@@ -167,7 +168,9 @@ module _ (g : Groups) where
     distinct = λ i j k m a b e. s .distinct i j k m (sym (round-live i) ∙ a) (sym (round-live j) ∙ b) (sym (round-id i) ∙ (e ∙ round-id j));
     below = λ i k a. subst (λ (n : ℕ). n < g .next) (sym (round-id i)) (s .below i k (sym (round-live i) ∙ a));
     queues = λ i k a. by-round (λ (p : Place). wellFormed (p .queue) ≡ true) g i (λ b _. queues.call-keeps (queueAt g i) queue.retry (s .queues i k b)) (λ _. s .queues i k (sym (round-live i) ∙ a));
-    domains = λ i k a. by-round (λ (p : Place). p .queue .domain ≡ g .base + p .id) g i (λ b _. call-keeps-domain (queueAt g i) queue.retry ∙ s .domains i k b) (λ _. s .domains i k (sym (round-live i) ∙ a));
+    domains =
+        λ i k a. by-round (λ (p : Place). p .queue .domain ≡ g .base + p .id) g i
+        (λ b _. call-keeps-domain (queueAt g i) queue.retry ∙ s .domains i k b) (λ _. s .domains i k (sym (round-live i) ∙ a));
     free = λ i k a. by-round (λ (p : Place). (p .id ≡ 0) × (isBlank (p .queue) ≡ true)) g i (λ b _. clash b (sym (round-live i) ∙ a)) (λ _. s .free i k (sym (round-live i) ∙ a));
     sealed = λ e i k. round-live i ∙ s .sealed e i k;
   }
@@ -186,7 +189,8 @@ module _ (g : Groups) (l : length (g .places) ≡ 16) where
   sound-after : Sound g → (c : Call) → Sound (after g c)
   unfolding sealing
   sound-after s c = call-by (λ (h : Groups). Sound h) g s
-      (λ id i e k. let w = spot-live g id i l e in step-sound g l s i (queue.after (queueAt g i) k) (w .0) (w .1) (queues.call-keeps (queueAt g i) k (s .queues i (w .0) (w .1))) (call-keeps-domain (queueAt g i) k))
+      (λ id i e k. let w = spot-live g id i l e in
+      step-sound g l s i (queue.after (queueAt g i) k) (w .0) (w .1) (queues.call-keeps (queueAt g i) k (s .queues i (w .0) (w .1))) (call-keeps-domain (queueAt g i) k))
       (λ i q u e n. open-sound g l s i q (room-free g i l e .0) (unsealed-means g u .1) (room-means g i e .1) n)
       (λ id i e _. free-sound g l s i (spot-live g id i l e .0))
       (λ _ _. all-free-sound (g .base) (g .next) true (s .base) (s .next))
@@ -217,7 +221,8 @@ unfolding emptyOf scopeOf
 root-keeps base h =
     let z : base ≡ base + 0 = omega arith in
     means-sound (opening (allFree base 0 false) 0 (scopeOf base 0)) refl
-    (open-sound (allFree base 0 false) refl (all-free-sound base 0 false h (omega arith)) 0 (scopeOf base 0) (omega arith) refl (omega arith) (record { sound = scope-well-formed base 0; domain = z; sized = scope-sized base 0 }))
+    (open-sound (allFree base 0 false) refl (all-free-sound base 0 false h (omega arith)) 0 (scopeOf base 0)
+    (omega arith) refl (omega arith) (record { sound = scope-well-formed base 0; domain = z; sized = scope-sized base 0 }))
 
 pub new-keeps : (base : ℕ) → wellGrouped (newOf base .groups) ≡ true
 unfolding newOf

@@ -156,4 +156,5 @@ closed-gone g id l h v =
     let s = spot-live g id (c .0) l (c .1) in
     let o : Sound g = sound-means g l (spot-means g id (c .0) (c .1) .0) in
     subst (λ (r : Groups). IsLive r id → ⊥) (sym (c .3))
-    (λ u. by-place g (c .0) freePlace l (s .0) (λ (p : Place). p .live ≡ true → p .id ≡ id → ⊥) (u .0) (λ _ b _. clash {b = false} b refl) (λ n b d. n (o .distinct (u .0) (c .0) (u .1) (s .0) b (s .1) (d ∙ sym (s .2)))) (u .2) (u .3)) v
+    (λ u. by-place g (c .0) freePlace l (s .0) (λ (p : Place). p .live ≡ true → p .id ≡ id → ⊥) (u .0)
+    (λ _ b _. clash {b = false} b refl) (λ n b d. n (o .distinct (u .0) (c .0) (u .1) (s .0) b (s .1) (d ∙ sym (s .2)))) (u .2) (u .3)) v

@@ -44,7 +44,8 @@ module _ (g : Groups) where
   numberOf r = addedSays (r .answer) .number
 
   -- 1 and 12, then the rest
-  gate-number : (f : Opened → AddAnswer) (rest : ℕ) → ((n : ℕ) → numberOf (f (Opened.Refused n)) ≡ n) → numberOf (f Open) ≡ rest → numberOf (f (unsealed g)) ≡ (if not (wellGrouped g) then broken else if g .sealed then sealed else rest)
+  gate-number : (f : Opened → AddAnswer) (rest : ℕ) → ((n : ℕ) → numberOf (f (Opened.Refused n)) ≡ n) → numberOf (f Open) ≡ rest
+      → numberOf (f (unsealed g)) ≡ (if not (wellGrouped g) then broken else if g .sealed then sealed else rest)
   gate-number f rest r o = go (not (wellGrouped g)) (g .sealed)
     where
       go : (a b : Bool) → numberOf (f (if a then Opened.Refused broken else if b then Opened.Refused sealed else Open)) ≡ (if a then broken else if b then sealed else rest)
@@ -66,7 +67,9 @@ module _ (g : Groups) where
 
   pub iterator-number : (bindings : List ℕ) → numberOf (addedIterator g bindings) ≡ firstDue (openOrder g bindings)
   unfolding addedIterator iteratorOpened
-  iterator-number bindings = gate-number (addedIteratorBy g bindings) _ (λ _. refl) (due-if (λ (o : OpenAnswer). numberOf (addedQueue g (o .queue) (o .answer))) (ltb 16 (length bindings)) _ _ refl (room-number _))
+  iterator-number bindings =
+      gate-number (addedIteratorBy g bindings) _
+      (λ _. refl) (due-if (λ (o : OpenAnswer). numberOf (addedQueue g (o .queue) (o .answer))) (ltb 16 (length bindings)) _ _ refl (room-number _))
 
 -- ---- by id
 module _ (g : Groups) (id : ℕ) where
@@ -83,7 +86,8 @@ module _ (g : Groups) (id : ℕ) where
   unfolding removed spotOf
   close-number = go (not (wellGrouped g)) (firstYes g (Holds id) [])
     where
-      go : (a : Bool) (f : Found) → closedSays (removedAt g (if a then Spot.Refused broken else spotAt f) .answer) .number ≡ (if a then broken else if not (isThere f) then noGroup else if undrainedAt g f then 13 else 0)
+      go : (a : Bool) (f : Found) → closedSays (removedAt g (if a then Spot.Refused broken else spotAt f) .answer) .number
+          ≡ (if a then broken else if not (isThere f) then noGroup else if undrainedAt g f then 13 else 0)
       go true f = refl
       go false Missing = refl
       go false (At i) = due-if (λ (r : CloseAnswer). closedSays (r .answer) .number) (not (drained (queueAt g i))) _ _ refl refl
@@ -92,7 +96,8 @@ pub seal-number : (g : Groups) → closedSays (sealedIn g .answer) .number ≡ f
 unfolding sealedIn
 seal-number g = go (not (wellGrouped g)) (g .sealed)
   where
-    go : (a b : Bool) → closedSays (sealedBy g (if a then Opened.Refused broken else if b then Opened.Refused sealed else Open) .answer) .number ≡ (if a then broken else if b then sealed else if someYes g Undrained [] then 13 else 0)
+    go : (a b : Bool) → closedSays (sealedBy g (if a then Opened.Refused broken else if b then Opened.Refused sealed else Open) .answer) .number
+        ≡ (if a then broken else if b then sealed else if someYes g Undrained [] then 13 else 0)
     go true b = refl
     go false true = refl
     go false false = due-if (λ (r : CloseAnswer). closedSays (r .answer) .number) (someYes g Undrained []) _ _ refl refl

@@ -45,7 +45,8 @@ use Rattle.cleanup_groups.specs.Orders.{orderAt, stepOrder, recordOrder}
 -- ---- as the queue
 module _ (g : Groups) (id : ℕ) where
   -- whichever call: it refuses with the number of the id, and at a place as the queue there
-  step-number : {A : Type 0} (number : A → ℕ) (f : Spot → A) (order : Queue → List Due) → ((n : ℕ) → number (f (Spot.Refused n)) ≡ n) → ((i : ℕ) → number (f (Spot.At i)) ≡ firstDue (order (queueAt g i))) → number (f (spotOf g id)) ≡ firstDue (stepOrder g id order)
+  step-number : {A : Type 0} (number : A → ℕ) (f : Spot → A) (order : Queue → List Due) → ((n : ℕ) → number (f (Spot.Refused n)) ≡ n)
+      → ((i : ℕ) → number (f (Spot.At i)) ≡ firstDue (order (queueAt g i))) → number (f (spotOf g id)) ≡ firstDue (stepOrder g id order)
   unfolding spotOf
   step-number number f order r s = go (not (wellGrouped g)) (firstYes g (Holds id) [])
     where
@@ -68,7 +69,9 @@ module _ (g : Groups) (id : ℕ) where
 
   pub complete-number : (t : Ticket) (outcome kept : ℕ) → completedSays (completedIn g id t outcome kept .answer) .number ≡ firstDue (stepOrder g id (λ q. completeOrder q t outcome kept))
   unfolding completedIn
-  complete-number t outcome kept = step-number (λ (r : GroupCompleteAnswer). completedSays (r .answer) .number) (completedAt g t outcome kept) (λ q. completeOrder q t outcome kept) (λ _. refl) (λ i. queue.complete-number (queueAt g i) t outcome kept)
+  complete-number t outcome kept =
+      step-number (λ (r : GroupCompleteAnswer). completedSays (r .answer) .number) (completedAt g t outcome kept)
+      (λ q. completeOrder q t outcome kept) (λ _. refl) (λ i. queue.complete-number (queueAt g i) t outcome kept)
 
   pub retry-number : retriedSays (retriedIn g id .answer) .number ≡ firstDue (stepOrder g id retryOrder)
   unfolding retriedIn
@@ -76,7 +79,9 @@ module _ (g : Groups) (id : ℕ) where
 
   pub admit-number : (target : List ℕ) → toldSays (admittedIn g id target .answer) .number ≡ firstDue (stepOrder g id brokenOnly)
   unfolding admittedIn
-  admit-number target = step-number (λ (r : GroupStageAnswer). toldSays (r .answer) .number) (admittedAt g target) brokenOnly (λ _. refl) (λ i. queue.admit-number (queueAt g i) (matches (queueAt g i) target))
+  admit-number target =
+      step-number (λ (r : GroupStageAnswer). toldSays (r .answer) .number) (admittedAt g target) brokenOnly
+      (λ _. refl) (λ i. queue.admit-number (queueAt g i) (matches (queueAt g i) target))
 
   pub admit-without-number : toldSays (admittedInWithout g id .answer) .number ≡ firstDue (stepOrder g id brokenOnly)
   unfolding admittedInWithout
@@ -91,7 +96,8 @@ module _ (g : Groups) (id : ℕ) where
   cancel-number = step-number (λ (r : GroupCancelAnswer). cancelledSays (r .answer) .number) (cancelledAt g) brokenOnly (λ _. refl) (λ i. queue.cancel-number (queueAt g i))
 
   -- the yes-or-no calls of a group, whichever
-  pub told-number : (tells : Queue → Told) → ((q : Queue) → toldSays (tells q) .number ≡ firstDue (brokenOnly q)) → toldSays (toldBy (got g id .answer) (tells (got g id .queue))) .number ≡ firstDue (stepOrder g id brokenOnly)
+  pub told-number : (tells : Queue → Told) → ((q : Queue) → toldSays (tells q) .number ≡ firstDue (brokenOnly q))
+      → toldSays (toldBy (got g id .answer) (tells (got g id .queue))) .number ≡ firstDue (stepOrder g id brokenOnly)
   unfolding got
   told-number tells h = step-number (λ (r : GetAnswer). toldSays (toldBy (r .answer) (tells (r .queue))) .number) (gotAt g) brokenOnly (λ _. refl) (λ i. h (queueAt g i))
 
@@ -118,7 +124,9 @@ module _ (g : Groups) where
 
   pub retry-all-number : toldSays (retriedAll g .answer) .number ≡ firstDue (recordOrder g)
   unfolding retriedAll
-  retry-all-number = queue.due-if (λ (r : RetryAllAnswer). toldSays (r .answer) .number) (not (wellGrouped g)) _ _ refl (if-by (λ (r : RetryAllAnswer). toldSays (r .answer) .number ≡ 0) (not (retriesAll g)) _ _ (λ _. refl) (λ _. refl))
+  retry-all-number =
+      queue.due-if (λ (r : RetryAllAnswer). toldSays (r .answer) .number) (not (wellGrouped g)) _ _ refl
+      (if-by (λ (r : RetryAllAnswer). toldSays (r .answer) .number ≡ 0) (not (retriesAll g)) _ _ (λ _. refl) (λ _. refl))
 
 -- ---- an id that is not live gets 10 from every call by id, and a spoiled record 1
 module _ (g : Groups) (id : ℕ) (order : Queue → List Due) where

@@ -54,30 +54,43 @@ module _ (g : Groups) where
 
     pub register-refused : (n : ℕ) → Returns n (registeredIn g id n)
     unfolding registeredIn
-    register-refused n = by-spot (λ (r : GroupRegisterAnswer). Returns n r) (registeredAt g n) (spotOf g id) (λ _ _ _ _ h. (cc, refl)) (λ i _ r m h. let w = queue.register-returns (queueAt g i) n r m h in (w .0, put-back i _ (w .1)))
+    register-refused n =
+        by-spot (λ (r : GroupRegisterAnswer). Returns n r) (registeredAt g n) (spotOf g id) (λ _ _ _ _ h. (cc, refl))
+        (λ i _ r m h. let w = queue.register-returns (queueAt g i) n r m h in (w .0, put-back i _ (w .1)))
 
     pub land-refused : (n : ℕ) → Returns n (landedIn g id n)
     unfolding landedIn
-    land-refused n = by-spot (λ (r : GroupRegisterAnswer). Returns n r) (landedAt g n) (spotOf g id) (λ _ _ _ _ h. (cc, refl)) (λ i _ r m h. let w = queue.land-returns (queueAt g i) n r m h in (w .0, put-back i _ (w .1)))
+    land-refused n =
+        by-spot (λ (r : GroupRegisterAnswer). Returns n r) (landedAt g n) (spotOf g id) (λ _ _ _ _ h. (cc, refl))
+        (λ i _ r m h. let w = queue.land-returns (queueAt g i) n r m h in (w .0, put-back i _ (w .1)))
 
-    pub complete-refused : (t : Ticket) (outcome kept refusal given : ℕ) → completedIn g id t outcome kept .answer ≡ Completed.Refused refusal given → (given ≡ kept) × (completedIn g id t outcome kept .groups ≡ g)
+    pub complete-refused : (t : Ticket) (outcome kept refusal given : ℕ)
+        → completedIn g id t outcome kept .answer ≡ Completed.Refused refusal given → (given ≡ kept) × (completedIn g id t outcome kept .groups ≡ g)
     unfolding completedIn
-    complete-refused t o k r m = by-spot (λ (a : GroupCompleteAnswer). a .answer ≡ Completed.Refused r m → (m ≡ k) × (a .groups ≡ g)) (completedAt g t o k) (spotOf g id) (λ _ _ h. (cc, refl)) (λ i _ h. let w = queue.complete-returns (queueAt g i) t o k r m h in (w .0, put-back i _ (w .1)))
+    complete-refused t o k r m =
+        by-spot (λ (a : GroupCompleteAnswer). a .answer ≡ Completed.Refused r m → (m ≡ k) × (a .groups ≡ g)) (completedAt g t o k) (spotOf g id)
+        (λ _ _ h. (cc, refl)) (λ i _ h. let w = queue.complete-returns (queueAt g i) t o k r m h in (w .0, put-back i _ (w .1)))
 
     pub pop-refused : (refusal : ℕ) → poppedIn g id .answer ≡ Popped.Refused refusal → poppedIn g id .groups ≡ g
     unfolding poppedIn
-    pop-refused r = by-spot (λ (a : GroupPopAnswer). a .answer ≡ Popped.Refused r → a .groups ≡ g) (poppedAt g) (spotOf g id) (λ _ _ _. refl) (λ i _ h. put-back i _ (queue.pop-returns (queueAt g i) r h))
+    pop-refused r =
+        by-spot (λ (a : GroupPopAnswer). a .answer ≡ Popped.Refused r → a .groups ≡ g) (poppedAt g) (spotOf g id)
+        (λ _ _ _. refl) (λ i _ h. put-back i _ (queue.pop-returns (queueAt g i) r h))
 
     pub retry-refused : (refusal : ℕ) → retriedIn g id .answer ≡ Retried.Refused refusal → retriedIn g id .groups ≡ g
     unfolding retriedIn
-    retry-refused r = by-spot (λ (a : GroupRetryAnswer). a .answer ≡ Retried.Refused r → a .groups ≡ g) (retriedAt g) (spotOf g id) (λ _ _ _. refl) (λ i _ h. put-back i _ (queue.retry-returns (queueAt g i) r h))
+    retry-refused r =
+        by-spot (λ (a : GroupRetryAnswer). a .answer ≡ Retried.Refused r → a .groups ≡ g) (retriedAt g) (spotOf g id)
+        (λ _ _ _. refl) (λ i _ h. put-back i _ (queue.retry-returns (queueAt g i) r h))
 
     abbrev Leaves : GroupStageAnswer → Type 0
     Leaves a = (refusal : ℕ) → a .answer ≡ Told.Refused refusal → a .groups ≡ g
 
     pub admit-refused : (target : List ℕ) → Leaves (admittedIn g id target)
     unfolding admittedIn
-    admit-refused target = by-spot (λ (a : GroupStageAnswer). Leaves a) (admittedAt g target) (spotOf g id) (λ _ _ _ _. refl) (λ i _ r h. put-back i _ (queue.admit-returns (queueAt g i) (matches (queueAt g i) target) r h))
+    admit-refused target =
+        by-spot (λ (a : GroupStageAnswer). Leaves a) (admittedAt g target) (spotOf g id) (λ _ _ _ _. refl)
+        (λ i _ r h. put-back i _ (queue.admit-returns (queueAt g i) (matches (queueAt g i) target) r h))
 
     pub admit-without-refused : Leaves (admittedInWithout g id)
     unfolding admittedInWithout
@@ -89,7 +102,9 @@ module _ (g : Groups) where
 
     pub cancel-refused : (refusal : ℕ) → cancelledIn g id .answer ≡ Cancelled.Refused refusal → cancelledIn g id .groups ≡ g
     unfolding cancelledIn
-    cancel-refused r = by-spot (λ (a : GroupCancelAnswer). a .answer ≡ Cancelled.Refused r → a .groups ≡ g) (cancelledAt g) (spotOf g id) (λ _ _ _. refl) (λ i _ h. put-back i _ (queue.cancel-returns (queueAt g i) r h))
+    cancel-refused r =
+        by-spot (λ (a : GroupCancelAnswer). a .answer ≡ Cancelled.Refused r → a .groups ≡ g) (cancelledAt g) (spotOf g id)
+        (λ _ _ _. refl) (λ i _ h. put-back i _ (queue.cancel-returns (queueAt g i) r h))
 
   -- ---- closing and sealing
   abbrev Kept : CloseAnswer → Type 0

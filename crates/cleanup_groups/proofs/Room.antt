@@ -43,7 +43,8 @@ module _ (g : Groups) where
   unfolding addedScope addedIterator iteratorOpened
   iterator-way bindings k h u =
       ap (λ (o : Opened). addedIteratorBy g bindings o .answer) u
-      ∙ (ap (λ (o : OpenAnswer). addedQueue g (o .queue) (o .answer) .answer) (miss _ (le-ltb 16 (length bindings) k)) ∙ (same-way (roomOf g) ∙ (sym (ap (λ (o : Opened). addedScopeBy g o .answer) u) ∙ h)))
+      ∙ (ap (λ (o : OpenAnswer). addedQueue g (o .queue) (o .answer) .answer) (miss _ (le-ltb 16 (length bindings) k))
+      ∙ (same-way (roomOf g) ∙ (sym (ap (λ (o : Opened). addedScopeBy g o .answer) u) ∙ h)))
     where
       same-way : (s : Spot) → addedAt g (iteratorOf (nextDomain g) 0 bindings) s .answer ≡ addedAt g (scopeOf (nextDomain g) 0) s .answer
       same-way (Spot.Refused r) = refl
@@ -60,7 +61,9 @@ module _ (g : Groups) where
 
       go : (f : Found) → firstYes g Free [] ≡ f → addedScope g .answer ≡ Added.Id (g .next)
       go Missing e = clash (and-left (someYes g Free []) (ltb (g .next) ids) room) (ap isThere e)
-      go (At i) e = open-way (means-unsealed g (told-yes g (roomFor g) h .0) (not-true _ (and-left (not (g .sealed)) (someYes g Free [] && ltb (g .next) ids) t))) i e (ltb-true _ _ (and-right (someYes g Free []) (ltb (g .next) ids) room))
+      go (At i) e =
+          open-way (means-unsealed g (told-yes g (roomFor g) h .0) (not-true _ (and-left (not (g .sealed)) (someYes g Free [] && ltb (g .next) ids) t))) i e
+          (ltb-true _ _ (and-right (someYes g Free []) (ltb (g .next) ids) room))
 
   pub may-open-iterator : (bindings : List ℕ) → length bindings ≤ 16 → canAddOf g ≡ Yes → addedIterator g bindings .answer ≡ Added.Id (g .next)
   may-open-iterator bindings k h =
@@ -77,7 +80,9 @@ module _ (g : Groups) where
   opened-may n = scope-by (λ (r : AddAnswer). r .answer ≡ Added.Id n → canAddOf g ≡ Yes) g (λ _ _ h. let z : _≡_ {A = ℕ} 0 1 = cc in absurd (omega arith)) (λ i u e _. room-for i u e)
 
   pub opened-may-iterator : (bindings : List ℕ) (n : ℕ) → addedIterator g bindings .answer ≡ Added.Id n → canAddOf g ≡ Yes
-  opened-may-iterator bindings n = iterator-by (λ (r : AddAnswer). r .answer ≡ Added.Id n → canAddOf g ≡ Yes) g (λ _ _ h. let z : _≡_ {A = ℕ} 0 1 = cc in absurd (omega arith)) bindings (λ i u _ e _. room-for i u e)
+  opened-may-iterator bindings n =
+      iterator-by (λ (r : AddAnswer). r .answer ≡ Added.Id n → canAddOf g ≡ Yes) g
+      (λ _ _ h. let z : _≡_ {A = ℕ} 0 1 = cc in absurd (omega arith)) bindings (λ i u _ e _. room-for i u e)
 
   -- ---- is_empty: no group is live
   module _ (l : length (g .places) ≡ 16) where

@@ -38,8 +38,10 @@ round-no g =
 pub round-yes : (g : Groups) → retriedAll g .answer ≡ Yes → (wellGrouped g ≡ true) × (retriesAll g ≡ true) × (retriedAll g .groups ≡ allRetried g)
 unfolding retriedAll
 round-yes g =
-    if-by (λ (r : RetryAllAnswer). r .answer ≡ Yes → (wellGrouped g ≡ true) × (retriesAll g ≡ true) × (r .groups ≡ allRetried g)) (not (wellGrouped g)) _ _ (λ _ h. let z : _≡_ {A = ℕ} 0 1 = cc in absurd (omega arith))
-    (λ w. if-by (λ (r : RetryAllAnswer). r .answer ≡ Yes → (wellGrouped g ≡ true) × (retriesAll g ≡ true) × (r .groups ≡ allRetried g)) (not (retriesAll g)) _ _ (λ _ h. let z : _≡_ {A = ℕ} 0 1 = cc in absurd (omega arith))
+    if-by (λ (r : RetryAllAnswer). r .answer ≡ Yes → (wellGrouped g ≡ true) × (retriesAll g ≡ true) × (r .groups ≡ allRetried g)) (not (wellGrouped g)) _ _
+    (λ _ h. let z : _≡_ {A = ℕ} 0 1 = cc in absurd (omega arith))
+    (λ w. if-by (λ (r : RetryAllAnswer). r .answer ≡ Yes → (wellGrouped g ≡ true) × (retriesAll g ≡ true) × (r .groups ≡ allRetried g)) (not (retriesAll g)) _ _
+    (λ _ h. let z : _≡_ {A = ℕ} 0 1 = cc in absurd (omega arith))
     (λ t _. (not-false _ w, not-false _ t, refl)))
 
 module _ (g : Groups) (l : length (g .places) ≡ 16) (t : retriesAll g ≡ true) where

@@ -48,10 +48,14 @@ new-says base h = ap openedSays (new-root base h .0)
 module _ (g : Groups) where
   -- an opening says the id that was next
   pub scope-says : (n : ℕ) → addedScope g .answer ≡ Added.Id n → addedSays (addedScope g .answer) ≡ says done (g .next ∷ [])
-  scope-says n = scope-by (λ (r : AddAnswer). r .answer ≡ Added.Id n → addedSays (r .answer) ≡ says done (g .next ∷ [])) g (λ _ _ h. let z : _≡_ {A = ℕ} 0 1 = cc in absurd (omega arith)) (λ _ _ _ _. refl)
+  scope-says n =
+      scope-by (λ (r : AddAnswer). r .answer ≡ Added.Id n → addedSays (r .answer) ≡ says done (g .next ∷ [])) g
+      (λ _ _ h. let z : _≡_ {A = ℕ} 0 1 = cc in absurd (omega arith)) (λ _ _ _ _. refl)
 
   pub iterator-says : (bindings : List ℕ) (n : ℕ) → addedIterator g bindings .answer ≡ Added.Id n → addedSays (addedIterator g bindings .answer) ≡ says done (g .next ∷ [])
-  iterator-says bindings n = iterator-by (λ (r : AddAnswer). r .answer ≡ Added.Id n → addedSays (r .answer) ≡ says done (g .next ∷ [])) g (λ _ _ h. let z : _≡_ {A = ℕ} 0 1 = cc in absurd (omega arith)) bindings (λ _ _ _ _ _. refl)
+  iterator-says bindings n =
+      iterator-by (λ (r : AddAnswer). r .answer ≡ Added.Id n → addedSays (r .answer) ≡ says done (g .next ∷ [])) g
+      (λ _ _ h. let z : _≡_ {A = ℕ} 0 1 = cc in absurd (omega arith)) bindings (λ _ _ _ _ _. refl)
 
   -- len says how many are live
   pub len-says : wellGrouped g ≡ true → lenSays (lenOf g) ≡ says done (liveCount (g .places) ∷ [])
@@ -95,17 +99,23 @@ never false n e z = let y : _≡_ {A = ℕ} 0 1 = cc in omega arith
 
 pub new-numbered : (base : ℕ) → Numbered Opened.Refused (newOf base .answer)
 unfolding newOf
-new-numbered base = if-by (λ (r : NewAnswer). Numbered Opened.Refused (r .answer)) (ltb lastBase base) _ _ (λ _ n e z. let y : 19 ≡ n = cc in omega arith) (λ _ n e z. let y : _≡_ {A = ℕ} 0 1 = cc in omega arith)
+new-numbered base =
+    if-by (λ (r : NewAnswer). Numbered Opened.Refused (r .answer)) (ltb lastBase base) _ _
+    (λ _ n e z. let y : 19 ≡ n = cc in omega arith) (λ _ n e z. let y : _≡_ {A = ℕ} 0 1 = cc in omega arith)
 
 module _ (g : Groups) where
   pub scope-numbered : Numbered Added.Refused (addedScope g .answer)
   scope-numbered = scope-by (λ (r : AddAnswer). Numbered Added.Refused (r .answer)) g (λ m o n e z. let y : m ≡ n = cc in o (omega arith)) (λ _ _ _ n e z. let y : _≡_ {A = ℕ} 0 1 = cc in omega arith)
 
   pub iterator-numbered : (bindings : List ℕ) → Numbered Added.Refused (addedIterator g bindings .answer)
-  iterator-numbered bindings = iterator-by (λ (r : AddAnswer). Numbered Added.Refused (r .answer)) g (λ m o n e z. let y : m ≡ n = cc in o (omega arith)) bindings (λ _ _ _ _ n e z. let y : _≡_ {A = ℕ} 0 1 = cc in omega arith)
+  iterator-numbered bindings =
+      iterator-by (λ (r : AddAnswer). Numbered Added.Refused (r .answer)) g
+      (λ m o n e z. let y : m ≡ n = cc in o (omega arith)) bindings (λ _ _ _ _ n e z. let y : _≡_ {A = ℕ} 0 1 = cc in omega arith)
 
   pub close-numbered : (id : ℕ) → Numbered Closed.Refused (removed g id .answer)
-  close-numbered id = close-by (λ (r : CloseAnswer). Numbered Closed.Refused (r .answer)) g (λ m o n e z. let y : m ≡ n = cc in o (omega arith)) id (λ _ _ _ n e z. let y : _≡_ {A = ℕ} 0 1 = cc in omega arith)
+  close-numbered id =
+      close-by (λ (r : CloseAnswer). Numbered Closed.Refused (r .answer)) g
+      (λ m o n e z. let y : m ≡ n = cc in o (omega arith)) id (λ _ _ _ n e z. let y : _≡_ {A = ℕ} 0 1 = cc in omega arith)
 
   pub seal-numbered : Numbered Closed.Refused (sealedIn g .answer)
   seal-numbered = seal-by (λ (r : CloseAnswer). Numbered Closed.Refused (r .answer)) g (λ m o n e z. let y : m ≡ n = cc in o (omega arith)) (λ _ _ n e z. let y : _≡_ {A = ℕ} 0 1 = cc in omega arith)

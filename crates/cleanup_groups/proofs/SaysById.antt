@@ -103,7 +103,9 @@ module _ (q : Queue) where
 
   cancels : Numbered Cancelled.Refused (cancelledBy q .answer)
   unfolding cancelledBy
-  cancels = if-by (λ (r : CancelAnswer). Numbered Cancelled.Refused (r .answer)) (not (wellFormed q)) _ _ (λ _ n e z. let y : 1 ≡ n = cc in omega arith) (λ _ n e z. let y : _≡_ {A = ℕ} 0 1 = cc in omega arith)
+  cancels =
+      if-by (λ (r : CancelAnswer). Numbered Cancelled.Refused (r .answer)) (not (wellFormed q)) _ _
+      (λ _ n e z. let y : 1 ≡ n = cc in omega arith) (λ _ n e z. let y : _≡_ {A = ℕ} 0 1 = cc in omega arith)
 
   pub asked-numbered : (answer : Bool) → Numbered Told.Refused (asked q answer)
   asked-numbered answer = if-by (λ (t : Told). Numbered Told.Refused t) (not (wellFormed q)) _ _ (λ _. no-told 1 (λ z. omega arith)) (λ _. never answer)
@@ -115,7 +117,8 @@ module _ (q : Queue) where
 -- ---- by id
 module _ (g : Groups) (id : ℕ) where
   -- whichever call: it passes the refusal of the id on, and at a place answers as the queue
-  step-numbered : {A : Type 0} (refused : ℕ → A) (f : Spot → A) → ((m n : ℕ) → f (Spot.Refused m) ≡ refused n → m ≡ n) → ((i : ℕ) → Numbered refused (f (Spot.At i))) → Numbered refused (f (spotOf g id))
+  step-numbered : {A : Type 0} (refused : ℕ → A) (f : Spot → A) → ((m n : ℕ) → f (Spot.Refused m) ≡ refused n → m ≡ n)
+      → ((i : ℕ) → Numbered refused (f (Spot.At i))) → Numbered refused (f (spotOf g id))
   step-numbered refused f out there = by-spot (Numbered refused) f (spotOf g id) (λ m s n e z. let y : m ≡ n = out m n e in spot-numbered g id m s (omega arith)) (λ i _. there i)
 
   pub register-numbered : (number back : ℕ) → Numbered (λ n. Registered.Refused n back) (registeredIn g id number .answer)

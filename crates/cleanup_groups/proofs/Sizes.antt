@@ -31,7 +31,9 @@ free-sized i k = subst (λ (p : Place). Sized (p .queue)) (sym (free-there 16 i 
 
 pub new-sized : (base : ℕ) → AllSized (newOf base .groups)
 unfolding newOf emptyOf
-new-sized base = if-by (λ (r : NewAnswer). AllSized (r .groups)) (ltb lastBase base) _ _ (λ _. free-sized) (λ _. put-sized (emptyOf base) 0 (livePlace 0 (scopeOf base 0)) refl (omega arith) free-sized (scope-sized base 0))
+new-sized base =
+    if-by (λ (r : NewAnswer). AllSized (r .groups)) (ltb lastBase base) _ _ (λ _. free-sized)
+    (λ _. put-sized (emptyOf base) 0 (livePlace 0 (scopeOf base 0)) refl (omega arith) free-sized (scope-sized base 0))
 
 pub call-sized : (g : Groups) (c : Call) → length (g .places) ≡ 16 → AllSized g → AllSized (after g c)
 unfolding sealing

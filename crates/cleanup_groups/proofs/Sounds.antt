@@ -36,7 +36,8 @@ module _ (question : Question) (target : List ℕ) (p : Place) where
   says-no f h = if-by (λ (b : Bool). b ≡ false) (p .live) _ _ f h
 
 -- ---- distinct ids, pair by pair
-distinct-each : (ps : List Place) → distinctIds ps ≡ true → (i j : ℕ) → i < j → j < length ps → getD ps i nowhere .live ≡ true → getD ps j nowhere .live ≡ true → getD ps i nowhere .id ≡ getD ps j nowhere .id → ⊥
+distinct-each : (ps : List Place) → distinctIds ps ≡ true → (i j : ℕ) → i < j → j < length ps
+    → getD ps i nowhere .live ≡ true → getD ps j nowhere .live ≡ true → getD ps i nowhere .id ≡ getD ps j nowhere .id → ⊥
 distinct-each [] h i j l k a b e = omega arith
 distinct-each (p ∷ ps) h i zero l k a b e = omega arith
 distinct-each (p ∷ ps) h zero (suc j) l k a b e =
@@ -46,12 +47,17 @@ distinct-each (p ∷ ps) h zero (suc j) l k a b e =
     clash (eq-eqb (getD ps j nowhere .id) (p .id) (sym e)) (sym (says-live (Holds (p .id)) [] (getD ps j nowhere) b) ∙ s)
 distinct-each (p ∷ ps) h (suc i) (suc j) l k a b e = distinct-each ps (and-right (not (clashes p ps)) (distinctIds ps) h) i j (omega arith) (omega arith) a b e
 
-each-distinct : (ps : List Place) → ((i j : ℕ) → i < j → j < length ps → getD ps i nowhere .live ≡ true → getD ps j nowhere .live ≡ true → getD ps i nowhere .id ≡ getD ps j nowhere .id → ⊥) → distinctIds ps ≡ true
+each-distinct : (ps : List Place)
+    → ((i j : ℕ) → i < j → j < length ps → getD ps i nowhere .live ≡ true → getD ps j nowhere .live ≡ true → getD ps i nowhere .id ≡ getD ps j nowhere .id → ⊥)
+    → distinctIds ps ≡ true
 each-distinct [] f = refl
 each-distinct (p ∷ ps) f = pass _ (ap not (go (p .live) refl)) ∙ each-distinct ps (λ i j l k a b e. f (suc i) (suc j) (omega arith) (omega arith) a b e)
   where
     apart : p .live ≡ true → isThere (firstFrom (asksOf (Holds (p .id)) []) 0 ps) ≡ false
-    apart a = each-none (asksOf (Holds (p .id)) []) 0 ps (λ j l. says-no (Holds (p .id)) [] (getD ps j nowhere) (λ b. ne-eqb (getD ps j nowhere .id) (p .id) (λ e. f 0 (suc j) (omega arith) (omega arith) a b (sym e))) (λ b. refl))
+    apart a =
+        each-none (asksOf (Holds (p .id)) []) 0 ps
+        (λ j l. says-no (Holds (p .id)) [] (getD ps j nowhere)
+        (λ b. ne-eqb (getD ps j nowhere .id) (p .id) (λ e. f 0 (suc j) (omega arith) (omega arith) a b (sym e))) (λ b. refl))
 
     go : (b : Bool) → p .live ≡ b → clashes p ps ≡ false
     go true a = pass _ a ∙ apart a

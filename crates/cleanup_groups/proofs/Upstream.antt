@@ -39,10 +39,14 @@ use Rattle.cleanup_groups.proofs.Keeps.{room-free, room-lowest, all-fre
 use Rattle.cleanup_groups.proofs.Asked.{finish-means}
 
 -- ---- a new record: exactly id 0 is live, next is 1, not sealed, and its queue is a fresh scope of the base
-pub new-root : (base : ℕ) → base ≤ lastBase → (newOf base .answer ≡ Open) × (newOf base .groups .next ≡ 1) × (newOf base .groups .sealed ≡ false) × LiveAt (newOf base .groups) 0 × (idAt (newOf base .groups) 0 ≡ 0) × (queueAt (newOf base .groups) 0 ≡ scopeOf base 0)
+pub new-root : (base : ℕ) → base ≤ lastBase
+    → (newOf base .answer ≡ Open) × (newOf base .groups .next ≡ 1) × (newOf base .groups .sealed
+    ≡ false) × LiveAt (newOf base .groups) 0 × (idAt (newOf base .groups) 0 ≡ 0) × (queueAt (newOf base .groups) 0 ≡ scopeOf base 0)
 unfolding newOf emptyOf
 new-root base h =
-    subst (λ (r : NewAnswer). (r .answer ≡ Open) × (r .groups .next ≡ 1) × (r .groups .sealed ≡ false) × LiveAt (r .groups) 0 × (idAt (r .groups) 0 ≡ 0) × (queueAt (r .groups) 0 ≡ scopeOf base 0)) (sym (miss _ (le-ltb lastBase base h)))
+    subst (λ (r : NewAnswer). (r .answer ≡ Open) × (r .groups .next ≡ 1) × (r .groups .sealed ≡ false) × LiveAt
+    (r .groups) 0 × (idAt (r .groups) 0 ≡ 0) × (queueAt (r .groups) 0 ≡ scopeOf base 0))
+    (sym (miss _ (le-ltb lastBase base h)))
     (refl, refl, refl, refl, refl, refl)
 
 pub new-refused : (base : ℕ) → lastBase < base → newOf base ≡ record { answer = Opened.Refused noId; groups = emptyOf 0 }
@@ -53,7 +57,8 @@ pub new-alone : (base i : ℕ) → base ≤ lastBase → i < 16 → LiveAt (newO
 unfolding newOf emptyOf
 new-alone base i h k = if-by (λ (r : NewAnswer). LiveAt (r .groups) i → i ≡ 0) (ltb lastBase base) _ _
     (λ _ a. clash a (all-free-sound 0 0 true (omega arith) (omega arith) .sealed refl i k))
-    (λ _. by-place (emptyOf base) 0 (livePlace 0 (scopeOf base 0)) refl (omega arith) (λ (p : Place). p .live ≡ true → i ≡ 0) i (λ e _. e) (λ _ a. clash a (all-free-sound 0 0 true (omega arith) (omega arith) .sealed refl i k)))
+    (λ _. by-place (emptyOf base) 0 (livePlace 0 (scopeOf base 0)) refl (omega arith) (λ (p : Place). p .live ≡ true → i ≡ 0) i
+    (λ e _. e) (λ _ a. clash a (all-free-sound 0 0 true (omega arith) (omega arith) .sealed refl i k)))
 
 -- ---- an opening that is done
 module _ (g : Groups) (l : length (g .places) ≡ 16) (n : ℕ) where
@@ -76,7 +81,9 @@ module _ (g : Groups) (l : length (g .places) ≡ 16) (n : ℕ) where
       }
 
   pub scope-as : addedScope g .answer ≡ Added.Id n → AddedAs g n (scopeOf (nextDomain g) 0) (addedScope g .groups)
-  scope-as = scope-by (λ (r : AddAnswer). r .answer ≡ Added.Id n → AddedAs g n (scopeOf (nextDomain g) 0) (r .groups)) g (λ _ _ h. let z : _≡_ {A = ℕ} 0 1 = cc in absurd (omega arith)) (λ i u e h. add-as _ i u e h)
+  scope-as =
+      scope-by (λ (r : AddAnswer). r .answer ≡ Added.Id n → AddedAs g n (scopeOf (nextDomain g) 0) (r .groups)) g
+      (λ _ _ h. let z : _≡_ {A = ℕ} 0 1 = cc in absurd (omega arith)) (λ i u e h. add-as _ i u e h)
 
   -- the committed bindings are the given ones: it is the queue that opening an iterator with them gives
   pub iterator-as : (bindings : List ℕ) → addedIterator g bindings .answer ≡ Added.Id n → (length bindings ≤ 16) × AddedAs g n (iteratorOf (nextDomain g) 0 bindings) (addedIterator g bindings .groups)
@@ -85,7 +92,8 @@ module _ (g : Groups) (l : length (g .places) ≡ 16) (n : ℕ) where
       (λ _ _ h. let z : _≡_ {A = ℕ} 0 1 = cc in absurd (omega arith)) bindings (λ i u b e h. (b, add-as _ i u e h))
 
 -- ---- can_finish says yes: nothing is pending and nothing has failed
-pub finish-quiet : (g : Groups) (target : List ℕ) → length (g .places) ≡ 16 → canFinishOf g target ≡ Yes → (i : ℕ) → i < 16 → LiveAt g i → (isPending (queueAt g i .phase) ≡ false) × (queueAt g i .failed ≡ false)
+pub finish-quiet : (g : Groups) (target : List ℕ) → length (g .places) ≡ 16 → canFinishOf g target ≡ Yes
+    → (i : ℕ) → i < 16 → LiveAt g i → (isPending (queueAt g i .phase) ≡ false) × (queueAt g i .failed ≡ false)
 finish-quiet g target l h i k a =
     let f : finishes (idAt g i) (queueAt g i) target ≡ true = finish-means g l target h i k a in
     (not-true _ (and-left (not (isPending (queueAt g i .phase))) _ f), not-true _ (and-left (not (queueAt g i .failed)) _ (and-right (not (isPending (queueAt g i .phase))) _ f)))
@@ -96,7 +104,9 @@ unfolding sealing
 seal-empties g i k = all-free-sound 0 0 true (omega arith) (omega arith) .sealed refl i k
 
 -- ---- a round of retries keeps slots, marks of issue and domains
-pub round-keeps-slots : (g : Groups) (i : ℕ) → (queueAt (allRetried g) i .slots ≡ queueAt g i .slots) × (queueAt (allRetried g) i .issued ≡ queueAt g i .issued) × (queueAt (allRetried g) i .domain ≡ queueAt g i .domain)
+pub round-keeps-slots : (g : Groups) (i : ℕ)
+    → (queueAt (allRetried g) i .slots ≡ queueAt g i .slots) × (queueAt (allRetried g) i .issued
+    ≡ queueAt g i .issued) × (queueAt (allRetried g) i .domain ≡ queueAt g i .domain)
 round-keeps-slots g i = by-round (λ (p : Place). (p .queue .slots ≡ queueAt g i .slots) × (p .queue .issued ≡ queueAt g i .issued) × (p .queue .domain ≡ queueAt g i .domain)) g i
     (λ _ _. let r = retry-leaves (queueAt g i) in (r .0, r .2, call-keeps-domain (queueAt g i) queue.retry)) (λ _. (refl, refl, refl))
 

@@ -29,7 +29,12 @@ unfolding admitted ended cancelledBy
 call-gives q (register n) = register-by (λ (r : RegisterAnswer). Gives q (tokenOf (r .answer)) (r .queue)) q n (λ _. inl (refl, refl)) (λ _ _ _. inr (refl, refl))
 call-gives q (land n) = land-by (λ (r : RegisterAnswer). Gives q (tokenOf (r .answer)) (r .queue)) q n (λ _. inl (refl, refl)) (λ _ _ _ _. inr (refl, refl))
 call-gives q pop = inl (refl, pop-by (λ (r : PopAnswer). r .queue .count ≡ q .count) q (λ _ _. refl) refl (λ _ _ _ _ _ _. refl) (λ _ _ _ _. refl))
-call-gives q (complete t o k) = inl (refl, complete-by (λ (r : CompleteAnswer). r .queue .count ≡ q .count) q t o k (λ _. refl) (λ _ _ _. if-by (λ (p : Queue). p .count ≡ q .count) (eqb o 0) _ _ (λ _. refl) (λ _. refl)))
+call-gives q (complete t o k) =
+    inl (
+      refl,
+      complete-by (λ (r : CompleteAnswer). r .queue .count ≡ q .count) q t o k (λ _. refl)
+          (λ _ _ _. if-by (λ (p : Queue). p .count ≡ q .count) (eqb o 0) _ _ (λ _. refl) (λ _. refl)),
+    )
 call-gives q retry = inl (refl, retry-by (λ (r : RetryAnswer). r .queue .count ≡ q .count) q (λ _. refl) (λ _ _ _ _. refl))
 call-gives q (admit m) = inl (refl, if-by (λ (r : StageAnswer). r .queue .count ≡ q .count) (not (wellFormed q)) _ _ (λ _. refl) (λ _. refl))
 call-gives q end = inl (refl, if-by (λ (r : StageAnswer). r .queue .count ≡ q .count) (not (wellFormed q)) _ _ (λ _. refl) (λ _. refl))

@@ -93,7 +93,9 @@ pub chosen-full : (q : Queue) → q .selection ≡ Free → (token : ℕ) → ne
 chosen-full q e token n = newest-full (q .slots) token (ap newest (sym (all-occupied q e)) ∙ n)
 
 abbrev pub FreshCase : (PopAnswer → Type 0) → Queue → Type 0
-FreshCase P q = Popping q → q .selection ≡ Free → (token : ℕ) → newest (waiting q) ≡ At token → (slot q token ≡ 0 → ⊥) → q .next < noMore → P (handed q (freshTicket q token) (slot q token) (q .next + 1))
+FreshCase P q =
+    Popping q → q .selection ≡ Free → (token : ℕ) → newest (waiting q) ≡ At token →
+    (slot q token ≡ 0 → ⊥) → q .next < noMore → P (handed q (freshTicket q token) (slot q token) (q .next + 1))
 
 abbrev pub ReadyCase : (PopAnswer → Type 0) → Queue → Type 0
 ReadyCase P q = Popping q → (t : Ticket) → q .selection ≡ Of t → (slot q (t .token) ≡ 0 → ⊥) → P (handed q t (slot q (t .token)) (q .next))
@@ -153,7 +155,11 @@ module _ (P : CompleteAnswer → Type 0) (q : Queue) (t : Ticket) (outcome kept 
       if-by D (ltb 1 outcome) _ _ (λ _. refused badOutcome (λ e. omega arith)) (λ o.
       if-by D (not (isOut (q .issued) (q .selection) t)) _ _ (λ _. refused notOut (λ e. omega arith)) (λ u.
       if-by D (keepsOnDone outcome kept) _ _ (λ _. refused keptOnDone (λ e. omega arith)) (λ k.
-      taken (record { sound = not-false _ w; issued = out-issued (q .issued) (q .selection) t (not-false _ u); selected = out-selected (q .issued) (q .selection) t (not-false _ u) }) (ltb-false _ _ o) k))))
+      taken (record {
+        sound = not-false _ w;
+        issued = out-issued (q .issued) (q .selection) t (not-false _ u);
+        selected = out-selected (q .issued) (q .selection) t (not-false _ u);
+      }) (ltb-false _ _ o) k))))
 
   pub complete-by : ((n : ℕ) → P (refusedComplete q n kept)) → Settles → P (completed q t outcome kept)
   complete-by refused = complete-cases (λ n _. refused n)

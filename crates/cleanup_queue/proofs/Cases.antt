@@ -150,7 +150,9 @@ unfolding registered registerRefusal
 w12-last =
     let h = counted 63 (omega arith) in
     let e : registers 63 .count ≡ 63 = h .0 in
-    ap (λ (r : RegisterAnswer). registeredSays (r .answer)) (miss _ (ap not (h .1)) ∙ ap (bornBy (registers 63) 6 (grown (registers 63) 6)) (miss _ (lt-leb 64 (registers 63 .count) (omega arith)))) ∙ ap (λ (k : ℕ). says 0 (k ∷ [])) e
+    ap (λ (r : RegisterAnswer). registeredSays (r .answer)) (miss _ (ap not (h .1))
+    ∙ ap (bornBy (registers 63) 6 (grown (registers 63) 6)) (miss _ (lt-leb 64 (registers 63 .count) (omega arith))))
+    ∙ ap (λ (k : ℕ). says 0 (k ∷ [])) e
 
 w12-full : registeredSays (registered (registers 64) 6 .answer) ≡ says 3 (6 ∷ [])
 unfolding registered registerRefusal
@@ -165,4 +167,10 @@ rows e f = rw (e, f)
 
 pub marked-cases : defined table ≡ written table
 unfolding sameSet wellFormed newest scopeOf iteratorOf iteratorOpened registered registerRefusal landed landRefusal popped popDue completed completeRefusal retried retryDue admitted
-marked-cases = rows w1 (rows w2 (rows w3 (rows w4-failed (rows w4-pop (rows w5-retry (rows w5-pop (rows w6 (rows w7 (rows w8-done (rows w8-pop (rows w9-failed (rows w9-retry (rows w9-pop (rows refl (rows refl (rows refl (rows refl (rows refl (rows refl (rows refl (rows w12-last (rows w12-full refl))))))))))))))))))))))
+marked-cases =
+    rows w1 (rows w2 (rows w3
+    (rows w4-failed (rows w4-pop
+    (rows w5-retry (rows w5-pop
+    (rows w6 (rows w7 (rows w8-done
+    (rows w8-pop (rows w9-failed
+    (rows w9-retry (rows w9-pop (rows refl (rows refl (rows refl (rows refl (rows refl (rows refl (rows refl (rows w12-last (rows w12-full refl))))))))))))))))))))))

@@ -61,7 +61,8 @@ module _ (q : Queue) (target : List ℕ) where
   unfolding canFinishTold
   means-finish f =
       yes-asked q (finishable (q .selection) (q .phase) target (committed q)) (f .sound)
-      ∙ ap yesOrNo (ap (λ (s : Selection). finishable s (q .phase) target (committed q)) (f .free) ∙ (pass _ (ap not (f .notPending)) ∙ (pass _ (ap not (f .notCancelled)) ∙ means-same target (committed q) (f .same))))
+      ∙ ap yesOrNo (ap (λ (s : Selection). finishable s (q .phase) target (committed q)) (f .free)
+      ∙ (pass _ (ap not (f .notPending)) ∙ (pass _ (ap not (f .notCancelled)) ∙ means-same target (committed q) (f .same))))
 
 -- there is a record for which it says yes
 pub finish-happens : canFinishTold (scopeOf 0 0) [] ≡ Yes

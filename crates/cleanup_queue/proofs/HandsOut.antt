@@ -42,7 +42,8 @@ module _ (q : Queue) where
   abbrev hands : Due → Bool
   hands d = handsOut (poppedAs q d .answer)
 
-  fresh-hands : q .selection ≡ Free → (f : Found) → newest (waiting q) ≡ f → handsOut (poppedAs q (freshDue f (q .slots) (q .domain) (q .next)) .answer) ≡ (not (isNone (waiting q)) && ltb (q .next) noMore)
+  fresh-hands : q .selection ≡ Free → (f : Found) → newest (waiting q) ≡ f
+      → handsOut (poppedAs q (freshDue f (q .slots) (q .domain) (q .next)) .answer) ≡ (not (isNone (waiting q)) && ltb (q .next) noMore)
   fresh-hands e Missing n = sym (stop _ (ap (λ (ks : List ℕ). not (isNone ks)) (newest-none (waiting q) n)))
   fresh-hands e (At token) n =
       ap hands (miss _ (ne-eqb (slot q token) 0 (chosen-full q e token n)))
@@ -60,7 +61,11 @@ module _ (q : Queue) where
   unfolding popped popDue mayHandOut
   pop-exactly = go (wellFormed q) refl (q .issued) refl (q .failed) refl
     where
-      go : (w : Bool) → wellFormed q ≡ w → (i : Bool) → q .issued ≡ i → (f : Bool) → q .failed ≡ f → handsOut ((if not w then refusedPop q broken else poppedAs q (if i then Due.Nothing else if f then Due.Nothing else dueBy (sought (q .selection) (q .slots)) (q .slots) (q .domain) (q .next) (q .selection))) .answer) ≡ (w && (not i && (not f && rest (q .selection) (waiting q))))
+      go : (w : Bool) → wellFormed q ≡ w → (i : Bool) → q .issued ≡ i → (f : Bool) → q .failed ≡ f
+          → handsOut ((if not w then refusedPop q broken
+          else poppedAs q (if i then Due.Nothing else if f then Due.Nothing
+          else dueBy (sought (q .selection) (q .slots)) (q .slots) (q .domain) (q .next) (q .selection))) .answer)
+          ≡ (w && (not i && (not f && rest (q .selection) (waiting q))))
       go false e i h f k = refl
       go true e true h f k = refl
       go true e false h true k = refl
@@ -75,7 +80,8 @@ module _ (q : Queue) where
       (λ p e token n full room t number w. fresh e token n full t number (work-parts (freshTicket q token) t (slot q token) number w))
       (λ p s e full t number w. ready s e full t number (work-parts s t (slot q (s .token)) number w))
     where
-      fresh : q .selection ≡ Free → (token : ℕ) → newest (waiting q) ≡ At token → (slot q token ≡ 0 → ⊥) → (t : Ticket) (number : ℕ) → (freshTicket q token ≡ t) × (slot q token ≡ number) → HandedOut q t number
+      fresh : q .selection ≡ Free → (token : ℕ) → newest (waiting q) ≡ At token → (slot q token ≡ 0 → ⊥)
+          → (t : Ticket) (number : ℕ) → (freshTicket q token ≡ t) × (slot q token ≡ number) → HandedOut q t number
       fresh e token n full t number w =
           let k : token ≡ t .token = ap (λ (x : Ticket). x .token) (w .0) in
           let all : waiting q ≡ occupied 0 (q .slots) = all-occupied q e in
@@ -83,7 +89,9 @@ module _ (q : Queue) where
             ticket = inr (record {
               free = e;
               older = without token (waiting q);
-              newest = (all ∙ (newest-last (q .slots) token (ap newest (sym all) ∙ n) ∙ ap (λ (l : List ℕ). without token l ++ (token ∷ [])) (sym all))) ∙ ap (λ (j : ℕ). without token (waiting q) ++ (j ∷ [])) k;
+              newest =
+                  (all ∙ (newest-last (q .slots) token (ap newest (sym all) ∙ n) ∙ ap (λ (l : List ℕ). without token l ++ (token ∷ [])) (sym all)))
+                  ∙ ap (λ (j : ℕ). without token (waiting q) ++ (j ∷ [])) k;
               carries = sym (w .0) ∙ ap (freshTicket q) k;
             });
             held = sym (w .1) ∙ ap (slot q) k;

@@ -58,7 +58,8 @@ module _ (q : Queue) (n : ℕ) where
       let b : t .token < q .count = ticket-born (q .domain) (q .count) (q .next) t h in
       ticket-fits (q .domain) (q .count + 1) (q .next) t (ticket-domain (q .domain) (q .count) (q .next) t h) (omega arith) (ticket-before (q .domain) (q .count) (q .next) t h)
 
-  born-selected : (s : Selection) → ticketFits (q .domain) (q .count) (q .next) s ≡ true → selectedFits (q .failed) (q .issued) (q .slots) s ≡ true → selectedFits (q .failed) (q .issued) (set (q .slots) (q .count) n) s ≡ true
+  born-selected : (s : Selection) → ticketFits (q .domain) (q .count) (q .next) s ≡ true
+      → selectedFits (q .failed) (q .issued) (q .slots) s ≡ true → selectedFits (q .failed) (q .issued) (set (q .slots) (q .count) n) s ≡ true
   born-selected Free h k = k
   born-selected (Of t) h k =
       let b : t .token < q .count = ticket-born (q .domain) (q .count) (q .next) t h in

@@ -71,9 +71,19 @@ module _ (q : Queue) where
   asked-number answer = first (brokenOnly q) [] (bit answer ∷ []) (asked-said q answer)
 
   -- each of the eight questions refuses with 1 alone
-  pub questions-number : (target : List ℕ) → OnlyBroken q (isEmptyTold q) × OnlyBroken q (isIssuedTold q) × OnlyBroken q (isPendingTold q) × OnlyBroken q (isSettledTold q) × OnlyBroken q (isCancelledTold q) × OnlyBroken q (hasFailedTold q) × OnlyBroken q (canRetryTold q) × OnlyBroken q (canFinishTold q target)
+  pub questions-number : (target : List ℕ)
+      → OnlyBroken q (isEmptyTold q) × OnlyBroken q (isIssuedTold q) × OnlyBroken q (isPendingTold q) × OnlyBroken q (isSettledTold q) × OnlyBroken q (isCancelledTold q) × OnlyBroken q (hasFailedTold q) × OnlyBroken q (canRetryTold q) × OnlyBroken q (canFinishTold q target)
   unfolding isEmptyTold isIssuedTold isPendingTold isSettledTold isCancelledTold hasFailedTold canRetryTold canFinishTold
-  questions-number target = (asked-number (nothingLeft (q .selection) (waiting q)), asked-number (q .issued), asked-number (isPending (q .phase)), asked-number (isSettled (q .phase)), asked-number (isCancelled (q .phase)), asked-number (q .failed), asked-number (retryAllowed q (q .selection)), asked-number (finishable (q .selection) (q .phase) target (committed q)))
+  questions-number target = (
+    asked-number (nothingLeft (q .selection) (waiting q)),
+    asked-number (q .issued),
+    asked-number (isPending (q .phase)),
+    asked-number (isSettled (q .phase)),
+    asked-number (isCancelled (q .phase)),
+    asked-number (q .failed),
+    asked-number (retryAllowed q (q .selection)),
+    asked-number (finishable (q .selection) (q .phase) target (committed q)),
+  )
 
   pub admit-number : (matched : Bool) → OnlyBroken q (admitted q matched .answer)
   admit-number matched = first (brokenOnly q) [] (bit (isPending (admitted q matched .queue .phase)) ∷ []) (admit-said q matched)
@@ -98,7 +108,8 @@ register-returns q n = register-by (Returns q n) q n (λ m refusal given e. (cc,
 pub land-returns : (q : Queue) (n refusal given : ℕ) → landed q n .answer ≡ Registered.Refused refusal given → (given ≡ n) × (landed q n .queue ≡ q)
 land-returns q n = land-by (Returns q n) q n (λ m refusal given e. (cc, refl)) (λ _ _ _ _ refusal given e. let z : _≡_ {A = ℕ} 0 1 = cc in absurd (omega arith))
 
-pub complete-returns : (q : Queue) (t : Ticket) (outcome kept refusal given : ℕ) → completed q t outcome kept .answer ≡ Completed.Refused refusal given → (given ≡ kept) × (completed q t outcome kept .queue ≡ q)
+pub complete-returns : (q : Queue) (t : Ticket) (outcome kept refusal given : ℕ)
+    → completed q t outcome kept .answer ≡ Completed.Refused refusal given → (given ≡ kept) × (completed q t outcome kept .queue ≡ q)
 complete-returns q t outcome kept =
     complete-by (λ (r : CompleteAnswer). (refusal given : ℕ) → r .answer ≡ Completed.Refused refusal given → (given ≡ kept) × (r .queue ≡ q)) q t outcome kept
     (λ m refusal given e. (cc, refl)) (λ _ _ _ refusal given e. let z : _≡_ {A = ℕ} 0 1 = cc in absurd (omega arith))
@@ -115,7 +126,9 @@ retry-returns q =
 
 pub admit-returns : (q : Queue) (matched : Bool) (refusal : ℕ) → admitted q matched .answer ≡ Told.Refused refusal → admitted q matched .queue ≡ q
 unfolding admitted
-admit-returns q matched refusal = if-by (λ (r : StageAnswer). r .answer ≡ Told.Refused refusal → r .queue ≡ q) (not (wellFormed q)) _ _ (λ _ _. refl) (λ _ e. never-refused (isPending (afterAdmit (q .phase) matched)) refusal e)
+admit-returns q matched refusal =
+    if-by (λ (r : StageAnswer). r .answer ≡ Told.Refused refusal → r .queue ≡ q) (not (wellFormed q)) _ _
+    (λ _ _. refl) (λ _ e. never-refused (isPending (afterAdmit (q .phase) matched)) refusal e)
 
 pub end-returns : (q : Queue) (refusal : ℕ) → ended q .answer ≡ Told.Refused refusal → ended q .queue ≡ q
 unfolding ended
@@ -123,4 +136,6 @@ end-returns q refusal = if-by (λ (r : StageAnswer). r .answer ≡ Told.Refused 
 
 pub cancel-returns : (q : Queue) (refusal : ℕ) → cancelledBy q .answer ≡ Cancelled.Refused refusal → cancelledBy q .queue ≡ q
 unfolding cancelledBy
-cancel-returns q refusal = if-by (λ (r : CancelAnswer). r .answer ≡ Cancelled.Refused refusal → r .queue ≡ q) (not (wellFormed q)) _ _ (λ _ _. refl) (λ _ e. let z : _≡_ {A = ℕ} 0 1 = cc in absurd (omega arith))
+cancel-returns q refusal =
+    if-by (λ (r : CancelAnswer). r .answer ≡ Cancelled.Refused refusal → r .queue ≡ q) (not (wellFormed q)) _ _
+    (λ _ _. refl) (λ _ e. let z : _≡_ {A = ℕ} 0 1 = cc in absurd (omega arith))

@@ -65,7 +65,11 @@ module _ (q : Queue) where
       pop-by (λ (r : PopAnswer). Waits q (attemptOf (r .answer)) (r .queue) ⊎ Goes q (attemptOf (r .answer)) (r .queue)) q
       (λ _ _. inl (refl, refl)) (inl (refl, refl))
       (λ p e token n full room. inr (ap (λ (a : ℕ). a ∷ []) (fresh-comes p e), let c : q .next ≡ coming q = fresh-comes p e in omega arith))
-      (λ p t e full. inr (ap (λ (a : ℕ). a ∷ []) (ready-comes p t e), let c : t .attempt ≡ coming q = ready-comes p t e in let b : t .attempt < q .next = selected-before q t (p .sound) e in omega arith))
+      (λ p t e full. inr (
+        ap (λ (a : ℕ). a ∷ []) (ready-comes p t e),
+        let c : t .attempt ≡ coming q =
+            ready-comes p t e in let b : t .attempt < q .next = selected-before q t (p .sound) e in omega arith,
+      ))
 
   -- an issued or failed queue's next handing out carries next
   out-comes : (t : Ticket) → Outside q t → coming q ≡ q .next
@@ -157,7 +161,8 @@ retried-carries q =
     (λ n t e. let z : _≡_ {A = ℕ} 0 1 = cc in absurd (omega arith))
     (λ w u e a t h. parts w u e t h)
   where
-    parts : wellFormed q ≡ true → (u : Ticket) → q .selection ≡ Of u → (t : Ticket) → Again (renewed q u) ≡ Again t → (t .attempt ≡ q .next) × ((s : Ticket) → q .selection ≡ Of s → (t .token ≡ s .token) × (s .attempt < t .attempt))
+    parts : wellFormed q ≡ true → (u : Ticket) → q .selection ≡ Of u → (t : Ticket) → Again (renewed q u) ≡ Again t
+        → (t .attempt ≡ q .next) × ((s : Ticket) → q .selection ≡ Of s → (t .token ≡ s .token) × (s .attempt < t .attempt))
     parts w u e t h =
         let r : renewed q u ≡ t = cc in
         let a : q .next ≡ t .attempt = ap (λ (x : Ticket). x .attempt) r in (

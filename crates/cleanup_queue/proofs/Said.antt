@@ -68,7 +68,9 @@ module _ (domain first : ℕ) (bindings : List ℕ) where
 
   pub opening-no-zero : iteratorOpened domain first bindings .answer ≡ Opened.Refused 0 → ⊥
   unfolding iteratorOpened
-  opening-no-zero = if-by (λ (r : OpenAnswer). r .answer ≡ Opened.Refused 0 → ⊥) (ltb 16 (length bindings)) _ _ (λ _ e. let z : _≡_ {A = ℕ} 14 0 = cc in omega arith) (λ _ e. let z : _≡_ {A = ℕ} 0 1 = cc in omega arith)
+  opening-no-zero =
+      if-by (λ (r : OpenAnswer). r .answer ≡ Opened.Refused 0 → ⊥) (ltb 16 (length bindings)) _ _
+      (λ _ e. let z : _≡_ {A = ℕ} 14 0 = cc in omega arith) (λ _ e. let z : _≡_ {A = ℕ} 0 1 = cc in omega arith)
 
 -- ---- register and land
 module _ (q : Queue) (n : ℕ) where
@@ -124,12 +126,15 @@ module _ (q : Queue) where
   fresh-said Missing = refl
   fresh-said (At k) = due-if takenAs (eqb (slot q k) 0) _ _ refl (due-if takenAs (leb noMore (q .next)) _ _ refl refl)
 
-  by-said : (s : Selection) → q .selection ≡ s → takenAs (dueBy (sought s (q .slots)) (q .slots) (q .domain) (q .next) s) ≡ firstSaid (due hollow (isHollow q (chosenToken false false s (waiting q))) ∷ due noAttempt (isThere (freshToken false false s (waiting q)) && leb noMore (q .next)) ∷ []) [] (workValues q false false s)
+  by-said : (s : Selection) → q .selection ≡ s
+      → takenAs (dueBy (sought s (q .slots)) (q .slots) (q .domain) (q .next) s)
+      ≡ firstSaid (due hollow (isHollow q (chosenToken false false s (waiting q))) ∷ due noAttempt (isThere (freshToken false false s (waiting q)) && leb noMore (q .next)) ∷ []) [] (workValues q false false s)
   by-said Free e = ap (λ (ks : List ℕ). takenAs (freshDue (newest ks) (q .slots) (q .domain) (q .next))) (sym (all-occupied q e)) ∙ fresh-said (newest (waiting q))
   by-said (Of t) e = due-if takenAs (eqb (slot q (t .token)) 0) _ _ refl refl
 
   -- while something is issued or failed nothing is due
-  idle-said : (i f : Bool) → takenAs (popDue i f (q .selection) (sought (q .selection) (q .slots)) (q .slots) (q .domain) (q .next)) ≡ firstSaid (due hollow (isHollow q (chosenToken i f (q .selection) (waiting q))) ∷ due noAttempt (isThere (freshToken i f (q .selection) (waiting q)) && leb noMore (q .next)) ∷ []) [] (workValues q i f (q .selection))
+  idle-said : (i f : Bool) → takenAs (popDue i f (q .selection) (sought (q .selection) (q .slots)) (q .slots) (q .domain) (q .next))
+      ≡ firstSaid (due hollow (isHollow q (chosenToken i f (q .selection) (waiting q))) ∷ due noAttempt (isThere (freshToken i f (q .selection) (waiting q)) && leb noMore (q .next)) ∷ []) [] (workValues q i f (q .selection))
   unfolding popDue
   idle-said true f = refl
   idle-said false true = refl
@@ -140,7 +145,9 @@ module _ (q : Queue) where
   pop-said = due-if taken (not (wellFormed q)) _ _ refl (idle-said (q .issued) (q .failed))
 
   pub pop-refused : RefusedAs q [] (poppedSays (popped q .answer)) (popped q .queue)
-  pop-refused = pop-by (λ (r : PopAnswer). RefusedAs q [] (poppedSays (r .answer)) (r .queue)) q (λ _ _ _. (refl, refl)) (λ z. absurd (z refl)) (λ _ _ _ _ _ _ z. absurd (z refl)) (λ _ _ _ _ z. absurd (z refl))
+  pop-refused =
+      pop-by (λ (r : PopAnswer). RefusedAs q [] (poppedSays (r .answer)) (r .queue)) q (λ _ _ _. (refl, refl))
+      (λ z. absurd (z refl)) (λ _ _ _ _ _ _ z. absurd (z refl)) (λ _ _ _ _ z. absurd (z refl))
 
   pub pop-no-zero : popped q .answer ≡ Popped.Refused 0 → ⊥
   pop-no-zero =
@@ -156,13 +163,16 @@ module _ (q : Queue) (t : Ticket) (outcome kept : ℕ) where
   unfolding completed completeRefusal
   complete-said =
       let by : ℕ → Said = λ k. taking (completedBy q t outcome kept k) in
-      due-if taking (not (wellFormed q)) _ _ refl (due-if by (ltb 1 outcome) _ _ refl (due-if by (not (isOut (q .issued) (q .selection) t)) _ _ refl (due-if by (keepsOnDone outcome kept) _ _ refl refl)))
+      due-if taking (not (wellFormed q)) _ _ refl
+      (due-if by (ltb 1 outcome) _ _ refl (due-if by (not (isOut (q .issued) (q .selection) t)) _ _ refl (due-if by (keepsOnDone outcome kept) _ _ refl refl)))
 
   pub complete-refused : RefusedAs q (kept ∷ []) (completedSays (completed q t outcome kept .answer)) (completed q t outcome kept .queue)
   complete-refused = complete-by (λ (r : CompleteAnswer). RefusedAs q (kept ∷ []) (completedSays (r .answer)) (r .queue)) q t outcome kept (λ _ _. (refl, refl)) (λ _ _ _ z. absurd (z refl))
 
   pub complete-no-zero : (given : ℕ) → completed q t outcome kept .answer ≡ Completed.Refused 0 given → ⊥
-  complete-no-zero = complete-cases (λ (r : CompleteAnswer). (given : ℕ) → r .answer ≡ Completed.Refused 0 given → ⊥) q t outcome kept (λ m z given e. z cc) (λ _ _ _ given e. let z : _≡_ {A = ℕ} 0 1 = cc in omega arith)
+  complete-no-zero =
+      complete-cases (λ (r : CompleteAnswer). (given : ℕ) → r .answer ≡ Completed.Refused 0 given → ⊥) q t outcome kept
+      (λ m z given e. z cc) (λ _ _ _ given e. let z : _≡_ {A = ℕ} 0 1 = cc in omega arith)
 
 -- ---- retry
 module _ (q : Queue) where
@@ -204,9 +214,19 @@ module _ (q : Queue) where
   asked-no-zero b = if-by (λ (r : Told). r ≡ Told.Refused 0 → ⊥) (not (wellFormed q)) _ _ (λ _ e. let z : _≡_ {A = ℕ} 1 0 = cc in omega arith) (λ _ e. never-refused b 0 e)
 
   -- what each of the eight questions says
-  pub questions-said : (target : List ℕ) → Tells q (nothingLeft (q .selection) (waiting q)) (isEmptyTold q) × Tells q (q .issued) (isIssuedTold q) × Tells q (isPending (q .phase)) (isPendingTold q) × Tells q (isSettled (q .phase)) (isSettledTold q) × Tells q (isCancelled (q .phase)) (isCancelledTold q) × Tells q (q .failed) (hasFailedTold q) × Tells q (retryAllowed q (q .selection)) (canRetryTold q) × Tells q (finishable (q .selection) (q .phase) target (committed q)) (canFinishTold q target)
+  pub questions-said : (target : List ℕ)
+      → Tells q (nothingLeft (q .selection) (waiting q)) (isEmptyTold q) × Tells q (q .issued) (isIssuedTold q) × Tells q (isPending (q .phase)) (isPendingTold q) × Tells q (isSettled (q .phase)) (isSettledTold q) × Tells q (isCancelled (q .phase)) (isCancelledTold q) × Tells q (q .failed) (hasFailedTold q) × Tells q (retryAllowed q (q .selection)) (canRetryTold q) × Tells q (finishable (q .selection) (q .phase) target (committed q)) (canFinishTold q target)
   unfolding isEmptyTold isIssuedTold isPendingTold isSettledTold isCancelledTold hasFailedTold canRetryTold canFinishTold
-  questions-said target = (asked-said (nothingLeft (q .selection) (waiting q)), asked-said (q .issued), asked-said (isPending (q .phase)), asked-said (isSettled (q .phase)), asked-said (isCancelled (q .phase)), asked-said (q .failed), asked-said (retryAllowed q (q .selection)), asked-said (finishable (q .selection) (q .phase) target (committed q)))
+  questions-said target = (
+    asked-said (nothingLeft (q .selection) (waiting q)),
+    asked-said (q .issued),
+    asked-said (isPending (q .phase)),
+    asked-said (isSettled (q .phase)),
+    asked-said (isCancelled (q .phase)),
+    asked-said (q .failed),
+    asked-said (retryAllowed q (q .selection)),
+    asked-said (finishable (q .selection) (q .phase) target (committed q)),
+  )
 
   -- whether the stage is pending afterwards
   pub admit-said : (matched : Bool) → Tells q (isPending (admitted q matched .queue .phase)) (admitted q matched .answer)
@@ -234,7 +254,9 @@ module _ (q : Queue) where
 
   pub admit-refused : (matched : Bool) → RefusedAs q [] (toldSays (admitted q matched .answer)) (admitted q matched .queue)
   unfolding admitted
-  admit-refused matched = if-by (λ (r : StageAnswer). RefusedAs q [] (toldSays (r .answer)) (r .queue)) (not (wellFormed q)) _ _ (λ _ _. (refl, refl)) (λ _ z. yes-or-no (isPending (afterAdmit (q .phase) matched)) z)
+  admit-refused matched =
+      if-by (λ (r : StageAnswer). RefusedAs q [] (toldSays (r .answer)) (r .queue)) (not (wellFormed q)) _ _
+      (λ _ _. (refl, refl)) (λ _ z. yes-or-no (isPending (afterAdmit (q .phase) matched)) z)
 
   pub end-refused : RefusedAs q [] (toldSays (ended q .answer)) (ended q .queue)
   unfolding ended
@@ -252,8 +274,12 @@ module _ (q : Queue) where
 
   pub cancel-no-zero : cancelledBy q .answer ≡ Cancelled.Refused 0 → ⊥
   unfolding cancelledBy
-  cancel-no-zero = if-by (λ (r : CancelAnswer). r .answer ≡ Cancelled.Refused 0 → ⊥) (not (wellFormed q)) _ _ (λ _ e. let z : _≡_ {A = ℕ} 1 0 = cc in omega arith) (λ _ e. let z : _≡_ {A = ℕ} 0 1 = cc in omega arith)
+  cancel-no-zero =
+      if-by (λ (r : CancelAnswer). r .answer ≡ Cancelled.Refused 0 → ⊥) (not (wellFormed q)) _ _
+      (λ _ e. let z : _≡_ {A = ℕ} 1 0 = cc in omega arith) (λ _ e. let z : _≡_ {A = ℕ} 0 1 = cc in omega arith)
 
   pub domain-no-zero : domainTold q ≡ DomainTold.Refused 0 → ⊥
   unfolding domainTold
-  domain-no-zero = if-by (λ (r : DomainTold). r ≡ DomainTold.Refused 0 → ⊥) (not (wellFormed q)) _ _ (λ _ e. let z : _≡_ {A = ℕ} 1 0 = cc in omega arith) (λ _ e. let z : _≡_ {A = ℕ} 0 1 = cc in omega arith)
+  domain-no-zero =
+      if-by (λ (r : DomainTold). r ≡ DomainTold.Refused 0 → ⊥) (not (wellFormed q)) _ _
+      (λ _ e. let z : _≡_ {A = ℕ} 1 0 = cc in omega arith) (λ _ e. let z : _≡_ {A = ℕ} 0 1 = cc in omega arith)

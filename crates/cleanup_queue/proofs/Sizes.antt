@@ -27,10 +27,13 @@ pub call-sized : (q : Queue) (c : Call) → Sized q → Sized (after q c)
 unfolding admitted ended cancelledBy
 call-sized q (register n) s = register-by (λ (r : RegisterAnswer). Sized (r .queue)) q n (λ _. s) (λ _ _ _. record { slots = stored q (q .count) n s; bindings = s .bindings })
 call-sized q (land n) s = land-by (λ (r : RegisterAnswer). Sized (r .queue)) q n (λ _. s) (λ _ _ _ _. record { slots = stored q (q .count) n s; bindings = s .bindings })
-call-sized q pop s = pop-by (λ (r : PopAnswer). Sized (r .queue)) q (λ _ _. s) s (λ _ _ token _ _ _. record { slots = stored q token 0 s; bindings = s .bindings }) (λ _ t _ _. record { slots = stored q (t .token) 0 s; bindings = s .bindings })
+call-sized q pop s =
+    pop-by (λ (r : PopAnswer). Sized (r .queue)) q (λ _ _. s) s (λ _ _ token _ _ _. record { slots = stored q token 0 s; bindings = s .bindings })
+    (λ _ t _ _. record { slots = stored q (t .token) 0 s; bindings = s .bindings })
 call-sized q (complete t o k) s =
     complete-by (λ (r : CompleteAnswer). Sized (r .queue)) q t o k (λ _. s)
-    (λ _ _ _. if-by (λ (p : Queue). Sized p) (eqb o 0) _ _ (λ _. record { slots = stored q (t .token) k s; bindings = s .bindings }) (λ _. record { slots = stored q (t .token) k s; bindings = s .bindings }))
+    (λ _ _ _. if-by (λ (p : Queue). Sized p) (eqb o 0) _ _ (λ _. record { slots = stored q (t .token) k s; bindings = s .bindings })
+    (λ _. record { slots = stored q (t .token) k s; bindings = s .bindings }))
 call-sized q retry s = retry-by (λ (r : RetryAnswer). Sized (r .queue)) q (λ _. s) (λ _ _ _ _. record { slots = s .slots; bindings = s .bindings })
 call-sized q (admit m) s = if-by (λ (r : StageAnswer). Sized (r .queue)) (not (wellFormed q)) _ _ (λ _. s) (λ _. record { slots = s .slots; bindings = s .bindings })
 call-sized q end s = if-by (λ (r : StageAnswer). Sized (r .queue)) (not (wellFormed q)) _ _ (λ _. s) (λ _. record { slots = s .slots; bindings = s .bindings })

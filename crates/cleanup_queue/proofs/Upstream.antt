@@ -66,7 +66,8 @@ occupied-from k (x ∷ xs) =
 without-from : (t b : ℕ) (ks : List ℕ) → From b ks → From b (without t ks)
 without-from t b ks (empty _) = empty b
 without-from t b ks (later _ a rest h r) =
-    if-by (From b) (eqb a t) (without t rest) (a ∷ without t rest) (λ _. lower b (suc a) (without t rest) (omega arith) (without-from t (suc a) rest r)) (λ _. later b a (without t rest) h (without-from t (suc a) rest r))
+    if-by (From b) (eqb a t) (without t rest) (a ∷ without t rest) (λ _. lower b (suc a) (without t rest) (omega arith) (without-from t (suc a) rest r))
+    (λ _. later b a (without t rest) h (without-from t (suc a) rest r))
 
 -- No token waits twice: the waiting tokens rise (Q9 b).
 pub waiting-rises : (q : Queue) → Rising (waiting q)
@@ -193,7 +194,9 @@ module _ (domain first : ℕ) (bindings : List ℕ) where
   opening-fresh = if-by (λ (r : OpenAnswer). Fresh (r .queue)) (ltb 16 (length bindings)) _ _ (λ _. blank-fresh) (λ _. iterator-fresh)
 
   -- With at most 16 bindings an iterator has the domain given and the bindings given, in order (Q84, Q88).
-  pub opening-as-given : length bindings ≤ 16 → (iteratorOpened domain first bindings .answer ≡ Open) × (iteratorOpened domain first bindings .queue .domain ≡ domain) × (committed (iteratorOpened domain first bindings .queue) ≡ bindings)
+  pub opening-as-given : length bindings ≤ 16
+      → (iteratorOpened domain first bindings .answer ≡ Open) × (iteratorOpened domain first bindings .queue .domain
+      ≡ domain) × (committed (iteratorOpened domain first bindings .queue) ≡ bindings)
   unfolding iteratorOpened iteratorOf
   opening-as-given l =
       let e = le-ltb 16 (length bindings) l in
@@ -205,7 +208,9 @@ pub call-keeps-opening : (q : Queue) (c : Call) → SameOpening q (after q c)
 unfolding admitted ended cancelledBy
 call-keeps-opening q (register n) = register-by (λ (r : RegisterAnswer). SameOpening q (r .queue)) q n (λ _. (refl, refl, refl, refl)) (λ _ _ _. (refl, refl, refl, refl))
 call-keeps-opening q (land n) = land-by (λ (r : RegisterAnswer). SameOpening q (r .queue)) q n (λ _. (refl, refl, refl, refl)) (λ _ _ _ _. (refl, refl, refl, refl))
-call-keeps-opening q pop = pop-by (λ (r : PopAnswer). SameOpening q (r .queue)) q (λ _ _. (refl, refl, refl, refl)) (refl, refl, refl, refl) (λ _ _ _ _ _ _. (refl, refl, refl, refl)) (λ _ _ _ _. (refl, refl, refl, refl))
+call-keeps-opening q pop =
+    pop-by (λ (r : PopAnswer). SameOpening q (r .queue)) q (λ _ _. (refl, refl, refl, refl)) (refl, refl, refl, refl)
+    (λ _ _ _ _ _ _. (refl, refl, refl, refl)) (λ _ _ _ _. (refl, refl, refl, refl))
 call-keeps-opening q (complete t o k) =
     complete-by (λ (r : CompleteAnswer). SameOpening q (r .queue)) q t o k (λ _. (refl, refl, refl, refl))
     (λ _ _ _. if-by (SameOpening q) (eqb o 0) _ _ (λ _. (refl, refl, refl, refl)) (λ _. (refl, refl, refl, refl)))
@@ -257,16 +262,20 @@ module _ (q : Queue) (n : ℕ) where
   land-succeeds w z p k = ap (λ (r : RegisterAnswer). r .answer) (miss _ (ap not w) ∙ ap (bornBy q n (landedTo q n)) (miss _ (ne-eqb n 0 z) ∙ (miss _ (ap not p) ∙ miss _ (lt-leb 64 (q .count) k))))
 
   -- Land answers a token only where the stage was pending; it is not pending afterwards, and settled exactly if it was cancelled, as the table moves it (Q123, Q129, Q130).
-  pub land-moves : (token : ℕ) → landed q n .answer ≡ Token token → (isPending (q .phase) ≡ true) × (isPending (landed q n .queue .phase) ≡ false) × (isSettled (landed q n .queue .phase) ≡ isCancelled (q .phase)) × (landed q n .queue .phase ≡ next (q .phase) Land)
+  pub land-moves : (token : ℕ) → landed q n .answer ≡ Token token
+      → (isPending (q .phase) ≡ true) × (isPending (landed q n .queue .phase) ≡ false) × (isSettled (landed q n .queue .phase)
+      ≡ isCancelled (q .phase)) × (landed q n .queue .phase ≡ next (q .phase) Land)
   land-moves =
-      land-by (λ (r : RegisterAnswer). (token : ℕ) → r .answer ≡ Token token → (isPending (q .phase) ≡ true) × (isPending (r .queue .phase) ≡ false) × (isSettled (r .queue .phase) ≡ isCancelled (q .phase)) × (r .queue .phase ≡ next (q .phase) Land)) q n
+      land-by (λ (r : RegisterAnswer). (token : ℕ) → r .answer ≡ Token token → (isPending (q .phase) ≡ true) ×
+      (isPending (r .queue .phase) ≡ false) × (isSettled (r .queue .phase) ≡ isCancelled (q .phase)) × (r .queue .phase ≡ next (q .phase) Land)) q n
       (λ m token e. let z : _≡_ {A = ℕ} 0 1 = cc in absurd (omega arith))
       (λ w z p k token e. (p, land-row (q .phase) p .0, land-row (q .phase) p .1, refl))
 
 -- ---- pop
 module _ (q : Queue) where
   -- a fact of what is handed out, from the fact of any ticket whose slot is full
-  work-by : (P : Ticket → ℕ → Queue → Type 0) → ((t : Ticket) (coming : ℕ) → Popping q → (slot q (t .token) ≡ 0 → ⊥) → P t (slot q (t .token)) (issuedTo q t coming)) → (t : Ticket) (number : ℕ) → popped q .answer ≡ Work t number → P t number (popped q .queue)
+  work-by : (P : Ticket → ℕ → Queue → Type 0) → ((t : Ticket) (coming : ℕ) → Popping q → (slot q (t .token) ≡ 0 → ⊥) → P t (slot q (t .token)) (issuedTo q t coming))
+      → (t : Ticket) (number : ℕ) → popped q .answer ≡ Work t number → P t number (popped q .queue)
   work-by P f =
       pop-by (λ (r : PopAnswer). (t : Ticket) (number : ℕ) → r .answer ≡ Work t number → P t number (r .queue)) q
       (λ m _ t number e. let z : _≡_ {A = ℕ} 0 1 = cc in absurd (omega arith))
@@ -291,7 +300,9 @@ module _ (q : Queue) where
 
   -- Pop leaves the stage, the mark failed and the count of tokens.
   pub pop-leaves : (popped q .queue .phase ≡ q .phase) × (popped q .queue .failed ≡ q .failed) × (popped q .queue .count ≡ q .count)
-  pop-leaves = pop-by (λ (r : PopAnswer). (r .queue .phase ≡ q .phase) × (r .queue .failed ≡ q .failed) × (r .queue .count ≡ q .count)) q (λ _ _. (refl, refl, refl)) (refl, refl, refl) (λ _ _ _ _ _ _. (refl, refl, refl)) (λ _ _ _ _. (refl, refl, refl))
+  pop-leaves =
+      pop-by (λ (r : PopAnswer). (r .queue .phase ≡ q .phase) × (r .queue .failed ≡ q .failed) × (r .queue .count ≡ q .count)) q
+      (λ _ _. (refl, refl, refl)) (refl, refl, refl) (λ _ _ _ _ _ _. (refl, refl, refl)) (λ _ _ _ _. (refl, refl, refl))
 
   -- Work handed out raises next by exactly 1 for a fresh ticket, and leaves it for a ready one.
   pub pop-next : (t : Ticket) (number : ℕ) → popped q .answer ≡ Work t number → TakesNext q (popped q .queue)
@@ -351,11 +362,13 @@ module _ (q : Queue) (t : Ticket) (outcome kept : ℕ) where
       complete-by (λ (r : CompleteAnswer). r .answer ≡ Settled → TakesBack q t outcome kept (r .queue)) q t outcome kept
       (λ n e. let z : _≡_ {A = ℕ} 0 1 = cc in absurd (omega arith))
       (λ o l k _. if-by (TakesBack q t outcome kept) (eqb outcome 0) _ _
-      (λ e. let z : outcome ≡ 0 = eqb-true outcome 0 e in (refl, refl, refl, issued-not-failed q (o .sound) (o .issued) ∙ sym (ne-eqb outcome 1 (λ p. omega arith)), ((λ p. absurd (omega arith)), (λ _. refl))))
+      (λ e. let z : outcome ≡ 0 = eqb-true outcome 0 e in
+      (refl, refl, refl, issued-not-failed q (o .sound) (o .issued) ∙ sym (ne-eqb outcome 1 (λ p. omega arith)), ((λ p. absurd (omega arith)), (λ _. refl))))
       (λ e. let n : outcome ≡ 0 → ⊥ = eqb-false outcome 0 e in (refl, refl, refl, sym (eq-eqb outcome 1 (omega arith)), ((λ _. o .selected), (λ p. absurd (n p))))))
 
 -- A reply to an earlier attempt is refused with 6.
-pub late-reply : (q : Queue) (s t : Ticket) (outcome kept : ℕ) → wellFormed q ≡ true → q .selection ≡ Of s → t .attempt < s .attempt → outcome ≤ 1 → completed q t outcome kept ≡ refusedComplete q notOut kept
+pub late-reply : (q : Queue) (s t : Ticket) (outcome kept : ℕ) → wellFormed q ≡ true → q .selection ≡ Of s
+    → t .attempt < s .attempt → outcome ≤ 1 → completed q t outcome kept ≡ refusedComplete q notOut kept
 unfolding completed completeRefusal
 late-reply q s t outcome kept h e l o = miss _ (ap not h) ∙ ap (completedBy q t outcome kept) (miss _ (le-ltb 1 outcome o) ∙ hit _ (ap not (apart (q .issued))))
   where
@@ -380,7 +393,11 @@ module _ (q : Queue) where
     where
       go : (s : Selection) → q .selection ≡ s → retryAllowed q s ≡ true → (t : Ticket) × (retried q .answer ≡ Again t)
       go Free e a = clash a refl
-      go (Of s) e a = (renewed q s, ap (λ (r : RetryAnswer). r .answer) (miss _ (ap not (asked-yes q (retryAllowed q (q .selection)) h .0)) ∙ ap (retriedAs q) (ap (dueAgain (q .failed) (q .slots) (q .next)) e ∙ miss _ (ap not a))))
+      go (Of s) e a = (
+        renewed q s,
+        ap (λ (r : RetryAnswer). r .answer) (miss _ (ap not (asked-yes q (retryAllowed q (q .selection)) h .0))
+            ∙ ap (retriedAs q) (ap (dueAgain (q .failed) (q .slots) (q .next)) e ∙ miss _ (ap not a))),
+      )
 
   -- Where retry answers a ticket, can_retry says yes (Q220).
   pub retries-told : (t : Ticket) → retried q .answer ≡ Again t → canRetryTold q ≡ Yes
@@ -392,16 +409,20 @@ module _ (q : Queue) where
 
   -- Retry leaves the slots, the mark issued and the stage (Q221, Q222).
   pub retry-leaves : (retried q .queue .slots ≡ q .slots) × (retried q .queue .count ≡ q .count) × (retried q .queue .issued ≡ q .issued) × (retried q .queue .phase ≡ q .phase)
-  retry-leaves = retry-by (λ (r : RetryAnswer). (r .queue .slots ≡ q .slots) × (r .queue .count ≡ q .count) × (r .queue .issued ≡ q .issued) × (r .queue .phase ≡ q .phase)) q (λ _. (refl, refl, refl, refl)) (λ _ _ _ _. (refl, refl, refl, refl))
+  retry-leaves =
+      retry-by (λ (r : RetryAnswer). (r .queue .slots ≡ q .slots) × (r .queue .count ≡ q .count) × (r .queue .issued ≡ q .issued) × (r .queue .phase ≡ q .phase)) q
+      (λ _. (refl, refl, refl, refl)) (λ _ _ _ _. (refl, refl, refl, refl))
 
   -- A ticket answered raises next by exactly 1.
   pub retry-next : (t : Ticket) → retried q .answer ≡ Again t → retried q .queue .next ≡ q .next + 1
   retry-next = retry-by (λ (r : RetryAnswer). (t : Ticket) → r .answer ≡ Again t → r .queue .next ≡ q .next + 1) q (λ n t e. let z : _≡_ {A = ℕ} 0 1 = cc in absurd (omega arith)) (λ _ _ _ _ _ _. refl)
 
   -- A ticket was selected before; the ticket answered is selected now, neither out nor failed (Q215, Q225 to Q227).
-  pub retry-renews : (t : Ticket) → retried q .answer ≡ Again t → ((s : Ticket) × (q .selection ≡ Of s)) × (retried q .queue .selection ≡ Of t) × (retried q .queue .failed ≡ false) × (retried q .queue .issued ≡ false)
+  pub retry-renews : (t : Ticket) → retried q .answer ≡ Again t
+      → ((s : Ticket) × (q .selection ≡ Of s)) × (retried q .queue .selection ≡ Of t) × (retried q .queue .failed ≡ false) × (retried q .queue .issued ≡ false)
   retry-renews =
-      retry-by (λ (r : RetryAnswer). (t : Ticket) → r .answer ≡ Again t → ((s : Ticket) × (q .selection ≡ Of s)) × (r .queue .selection ≡ Of t) × (r .queue .failed ≡ false) × (r .queue .issued ≡ false)) q
+      retry-by (λ (r : RetryAnswer). (t : Ticket) → r .answer ≡ Again t → ((s : Ticket) × (q .selection ≡ Of s)) ×
+      (r .queue .selection ≡ Of t) × (r .queue .failed ≡ false) × (r .queue .issued ≡ false)) q
       (λ n t e. let z : _≡_ {A = ℕ} 0 1 = cc in absurd (omega arith))
       (λ w s e a t h. let same : renewed q s ≡ t = cc in ((s, e), ap Of same, refl, failed-not-issued q w (and-left (q .failed) _ a)))
 
@@ -464,12 +485,17 @@ module _ (q : Queue) where
   -- Admit answers whether the stage is pending afterwards (Q237).
   pub admit-answers : (matched : Bool) → admitted q matched .answer ≡ asked q (isPending (admitted q matched .queue .phase))
   unfolding admitted
-  admit-answers matched = if-by (λ (r : StageAnswer). r .answer ≡ asked q (isPending (r .queue .phase))) (not (wellFormed q)) (refusedStage q) (admittedBy q matched) (λ e. sym (hit _ e)) (λ e. sym (miss _ e))
+  admit-answers matched =
+      if-by (λ (r : StageAnswer). r .answer ≡ asked q (isPending (r .queue .phase))) (not (wellFormed q))
+      (refusedStage q) (admittedBy q matched) (λ e. sym (hit _ e)) (λ e. sym (miss _ e))
 
   -- That is: it was pending, or neither settled nor cancelled and the target matches (Q238).
   pub admit-says : (matched : Bool) → admitted q matched .answer ≡ asked q (isPending (q .phase) || (not (isSettled (q .phase)) && (not (isCancelled (q .phase)) && matched)))
   unfolding admitted
-  admit-says matched = if-by (λ (r : StageAnswer). r .answer ≡ asked q (isPending (q .phase) || (not (isSettled (q .phase)) && (not (isCancelled (q .phase)) && matched)))) (not (wellFormed q)) _ _ (λ e. sym (hit _ e)) (λ e. ap yesOrNo (admit-row (q .phase) matched) ∙ sym (miss _ e))
+  admit-says matched =
+      if-by (λ (r : StageAnswer). r .answer ≡ asked q (isPending (q .phase) || (not (isSettled (q .phase)) && (not (isCancelled (q .phase)) && matched))))
+      (not (wellFormed q)) _ _
+      (λ e. sym (hit _ e)) (λ e. ap yesOrNo (admit-row (q .phase) matched) ∙ sym (miss _ e))
 
   -- End answers whether the stage was pending (Q246).
   pub end-answers : ended q .answer ≡ asked q (isPending (q .phase))
@@ -484,7 +510,8 @@ module _ (q : Queue) where
       (λ _ h. let z : _≡_ {A = ℕ} 0 1 = cc in absurd (omega arith)) (λ _ h. end-row (q .phase) h)
 
   -- Cancel of a well-formed record is done; the stage is cancelled then, and pending exactly if it was (Q257, Q258).
-  pub cancel-cancels : wellFormed q ≡ true → (cancelledBy q .answer ≡ Cancelled.Done) × (isCancelled (cancelledBy q .queue .phase) ≡ true) × (isPending (cancelledBy q .queue .phase) ≡ isPending (q .phase))
+  pub cancel-cancels : wellFormed q ≡ true
+      → (cancelledBy q .answer ≡ Cancelled.Done) × (isCancelled (cancelledBy q .queue .phase) ≡ true) × (isPending (cancelledBy q .queue .phase) ≡ isPending (q .phase))
   unfolding cancelledBy
   cancel-cancels w = (ap (λ (r : CancelAnswer). r .answer) (miss _ (ap not w)), ap isCancelled (cancel-moves w) ∙ cancel-row (q .phase) .0, ap isPending (cancel-moves w) ∙ cancel-row (q .phase) .1)
 

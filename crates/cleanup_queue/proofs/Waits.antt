@@ -77,7 +77,9 @@ module _ (q : Queue) where
       pop-by (Drops q) q
       (λ m _ t number e f. let z : _≡_ {A = ℕ} 0 1 = cc in absurd (omega arith))
       (λ t number e f. let z : _≡_ {A = ℕ} 0 1 = cc in absurd (omega arith))
-      (λ p e token n full room t number w f. fresh-waits token (q .next + 1) e n ∙ ap (λ (k : ℕ). waiting (issuedTo q (freshTicket q token) (q .next + 1)) ++ (k ∷ [])) (ap (λ (x : Ticket). x .token) (work-parts (freshTicket q token) t (slot q token) number w .0)))
+      (λ p e token n full room t number w f. fresh-waits token (q .next + 1) e n
+      ∙ ap (λ (k : ℕ). waiting (issuedTo q (freshTicket q token) (q .next + 1)) ++ (k ∷ []))
+      (ap (λ (x : Ticket). x .token) (work-parts (freshTicket q token) t (slot q token) number w .0)))
       (λ p s e full t number w f. let z : _≡_ {A = ℕ} 0 1 = cc in absurd (omega arith))
 
   pub ready-pop-keeps : (t : Ticket) → q .selection ≡ Of t → waiting (popped q .queue) ≡ waiting q

@@ -39,7 +39,8 @@ history-read s b h r (badAt place o bad) = absurd (bad-place-stop (opening s) (w
 history-read s b h r (goodLog o w) = ap (λ (n : ℕ). reading (Read.Good n) (endOf (openedQueue s) (rowsOf b))) (stands s b h .counted) ∙ ap (reading (Read.Good (b .used))) (sym (history-ends s b h))
 
 -- of a log with a bad row it gives the record that any history leaves which wrote the rows before that row
-pub bad-read : (s : Start) (b : Bench) → History s b → (log : List ℕ) (r : Reading) → ReadsAs (s .kind) (s .domain) (s .first) (s .bindings) log r → readSays (r .answer) .0 ≡ badLog → rowsOf b ≡ take (readSays (r .answer) .1) (rows log) → r .queue ≡ b .queue
+pub bad-read : (s : Start) (b : Bench) → History s b → (log : List ℕ) (r : Reading) → ReadsAs (s .kind) (s .domain) (s .first) (s .bindings) log r
+    → readSays (r .answer) .0 ≡ badLog → rowsOf b ≡ take (readSays (r .answer) .1) (rows log) → r .queue ≡ b .queue
 bad-read s b h log r (refusedOpening e) z same = absurd (omega arith)
 bad-read s b h log r (badAt place o bad) z same = sym (history-ends s b h ∙ ap (endOf (openedQueue s)) same)
 bad-read s b h log r (goodLog o w) z same = absurd (omega arith)
@@ -69,4 +70,6 @@ module _ (kind : Kind) (domain first : ℕ) (bindings log : List ℕ) where
   reader-histories r a = (good r a, back)
     where
       back : LeftBy kind domain first bindings log → readSays (r .answer) .0 ≡ done
-      back l = ap (λ (x : Reading). readSays (x .answer) .0) (history-read (from (l .memory)) (l .end) (l .history) r (subst (λ (x : List ℕ). ReadsAs kind domain first bindings x r) (sym (l .words)) a))
+      back l =
+          ap (λ (x : Reading). readSays (x .answer) .0)
+          (history-read (from (l .memory)) (l .end) (l .history) r (subst (λ (x : List ℕ). ReadsAs kind domain first bindings x r) (sym (l .words)) a))

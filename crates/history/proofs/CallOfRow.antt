@@ -96,7 +96,9 @@ module _ (b : Bench) (w : wellFormed (b .queue) ≡ true) (p : Put (b .log) (b .
   writes-complete kind h = go (completed q (rowTicket q r) (r .outcome) (r .number) .answer) refl h
     where
       go : (a : Completed) → completed q (rowTicket q r) (r .outcome) (r .number) .answer ≡ a → isSettledAnswer a ≡ true → Writes b r
-      go Completed.Settled e k = writes-by (complete (rowTicket q r) (r .outcome) (r .number)) _ (ap (completeEntry (rowTicket q r) (r .outcome) (r .number)) e) refl refl (ap (λ (x : ℕ). rowOf x (r .token) (r .attempt) (r .outcome) (r .number)) (sym kind)) (λ d f. pass _ d ∙ and-right (isWord (r .kind)) _ f)
+      go Completed.Settled e k =
+          writes-by (complete (rowTicket q r) (r .outcome) (r .number)) _ (ap (completeEntry (rowTicket q r) (r .outcome) (r .number)) e) refl refl
+          (ap (λ (x : ℕ). rowOf x (r .token) (r .attempt) (r .outcome) (r .number)) (sym kind)) (λ d f. pass _ d ∙ and-right (isWord (r .kind)) _ f)
       go (Completed.Refused m n) e k = clash k refl
 
   writes-retry : retryFits (retried q .answer) r ≡ true → Writes b r
@@ -113,7 +115,9 @@ module _ (b : Bench) (w : wellFormed (b .queue) ≡ true) (p : Put (b .log) (b .
 
   admit-entry : entryOf q (admit true) ≡ entry done (differs (q .phase) (next (q .phase) Admit)) (stageRow admitKind)
   unfolding admitted
-  admit-entry = ap (λ (x : StageAnswer). stageEntry admitKind (q .phase) (x .queue .phase) (x .answer)) (miss _ (ap not w)) ∙ told-entry admitKind (q .phase) (next (q .phase) Admit) (isPending (next (q .phase) Admit))
+  admit-entry =
+      ap (λ (x : StageAnswer). stageEntry admitKind (q .phase) (x .queue .phase) (x .answer)) (miss _ (ap not w))
+      ∙ told-entry admitKind (q .phase) (next (q .phase) Admit) (isPending (next (q .phase) Admit))
 
   end-entry : entryOf q end ≡ entry done (differs (q .phase) (next (q .phase) End)) (stageRow endKind)
   unfolding ended
@@ -128,7 +132,8 @@ module _ (b : Bench) (w : wellFormed (b .queue) ≡ true) (p : Put (b .log) (b .
       let m = and-right (wellFormed q) (differs (q .phase) (next (q .phase) e) && sameRow (rowOf (r .kind) 0 0 0 0) r) h in
       (and-left (differs (q .phase) (next (q .phase) e)) _ m, ap (λ (x : ℕ). rowOf x 0 0 0 0) (sym kind) ∙ one-row (rowOf (r .kind) 0 0 0 0) r (and-right (differs (q .phase) (next (q .phase) e)) _ m))
 
-  writes-stage : (c : Call) (e : Event) (k : ℕ) → entryOf q c ≡ entry done (differs (q .phase) (next (q .phase) e)) (stageRow k) → fits c ≡ true → r .kind ≡ k → replayedStage q e r .fits ≡ true → Writes b r
+  writes-stage : (c : Call) (e : Event) (k : ℕ) → entryOf q c ≡ entry done (differs (q .phase) (next (q .phase) e)) (stageRow k)
+      → fits c ≡ true → r .kind ≡ k → replayedStage q e r .fits ≡ true → Writes b r
   writes-stage c e k is words kind h = let m = moves-of e k kind h in writes-by c _ is refl (m .0) (m .1) (λ _ _. words)
 
   birth-token : (k : ℕ) (a : Registered) → r .kind ≡ k → birthFits a r ≡ true → (t : ℕ) × (a ≡ Registered.Token t) × (rowOf k t 0 0 (r .number) ≡ r)

@@ -51,7 +51,8 @@ abbrev ticket : ℕ → ℕ → Ticket
 ticket token attempt = record { domain = 4; token = token; attempt = attempt }
 
 abbrev at : ℕ → ℕ → ℕ → ℕ → Selection → Bool → Bool → Phase → Queue
-at next count first second s failed issued phase = withIssued (withFailed (withSelection (withCount (withSlot (withSlot (opened Iterator phase 4 next (3 ∷ [])) 0 first) 1 second) count) s) failed) issued
+at next count first second s failed issued phase =
+    withIssued (withFailed (withSelection (withCount (withSlot (withSlot (opened Iterator phase 4 next (3 ∷ [])) 0 first) 1 second) count) s) failed) issued
 
 -- behind its first rows the log holds the words that were lent
 abbrev behind : ℕ → Queue → Bench

@@ -80,5 +80,6 @@ pub same-record : (s t : Start) (a b : Bench) → openedQueue s ≡ openedQueue 
 same-record s t a b o h k e = history-ends s a h ∙ (ap (λ (q : Queue). endOf q (rowsOf a)) o ∙ (ap (endOf (openedQueue t)) e ∙ sym (history-ends t b k)))
 
 -- the logs of histories are exactly the language: with room for the rows, some history leaves them if and only if they belong
-pub histories-language : (s : Start) (rs : List Row) → openedAs (s .kind) (s .domain) (s .first) (s .bindings) .answer ≡ Opened.Open → length rs * 5 ≤ length (s .memory) → Leaves s rs ↔ Belongs (opening s) rs
+pub histories-language : (s : Start) (rs : List Row) → openedAs (s .kind) (s .domain) (s .first) (s .bindings) .answer ≡ Opened.Open
+    → length rs * 5 ≤ length (s .memory) → Leaves s rs ↔ Belongs (opening s) rs
 histories-language s rs unrefused room = (λ l. subst (λ (x : List Row). Belongs (opening s) x) (l .wrote) (history-belongs s (l .end) (l .history)), λ b. language-spoken s unrefused rs b room)

@@ -38,7 +38,9 @@ opened-domain Iterator domain first bindings e = ap (λ (q : Queue). q .domain) 
 
 history-domain : (s : Start) (b : Bench) → History s b → b .queue .domain ≡ s .domain
 history-domain s _ (opens e) = opened-domain (s .kind) (s .domain) (s .first) (s .bindings) e
-history-domain s _ (calls {b} h c a) = ⊎-elim (λ e. ap (λ (x : Bench). x .queue .domain) e) (λ w. ap (λ (x : Bench). x .queue .domain) (w .left) ∙ call-keeps-domain (b .queue) c) (step b (stands s b h .sound) c a) ∙ history-domain s b h
+history-domain s _ (calls {b} h c a) =
+    ⊎-elim (λ e. ap (λ (x : Bench). x .queue .domain) e) (λ w. ap (λ (x : Bench). x .queue .domain) (w .left)
+    ∙ call-keeps-domain (b .queue) c) (step b (stands s b h .sound) c a) ∙ history-domain s b h
 
 -- one call more behind the others
 made-more : {a b : Bench} {cs : List Call} → Made a cs b → (c : Call) → numberOf b c ≡ done → Made a (cs ++ (c ∷ [])) (called b c)
@@ -62,7 +64,13 @@ module _ (s : Start) (unrefused : openedAs (s .kind) (s .domain) (s .first) (s .
       let m : More s unrefused (h .end) rs r = row-more s unrefused (h .end) k rs r (h .wrote) b l in
       let d : isWord (h .end .queue .domain) ≡ true = ap isWord (history-domain s (h .end) k) ∙ word in
       let w : fits (m .write .call) ≡ true = m .write .words d (and-right (every rowFits rs) (rowFits r) g) in
-      record { calls = h .calls ++ (m .write .call ∷ []); fitting = every-snoc fits (h .calls) (m .write .call) ∙ (pass _ (h .fitting) ∙ w); end = called (h .end) (m .write .call); made = made-more (h .made) (m .write .call) (m .write .fine); wrote = m .wrote }
+      record {
+        calls = h .calls ++ (m .write .call ∷ []);
+        fitting = every-snoc fits (h .calls) (m .write .call) ∙ (pass _ (h .fitting) ∙ w);
+        end = called (h .end) (m .write .call);
+        made = made-more (h .made) (m .write .call) (m .write .fine);
+        wrote = m .wrote;
+      }
 
   -- every log in the language, of 64-bit words and with room for its rows, is left by calls with 64-bit inputs
   pub language-spoken-fits : (rs : List Row) → Spoken rs

@@ -20,5 +20,6 @@ pub history-born : (s : Start) (b : Bench) → History s b → (k : ℕ) (d : Ro
 history-born s b h k d l = births-at (rowsOf b) (history-belongs s b h .bornInOrder) k d l
 
 -- a token's Done row is the last of its own rows: it is never handed out again
-pub history-done : (s : Start) (b : Bench) → History s b → (t : ℕ) (before behind : List Row) (r : Row) → own t (rowsOf b) ≡ before ++ (r ∷ behind) → is complete r ≡ true → r .outcome ≡ 0 → behind ≡ []
+pub history-done : (s : Start) (b : Bench) → History s b → (t : ℕ) (before behind : List Row) (r : Row)
+    → own t (rowsOf b) ≡ before ++ (r ∷ behind) → is complete r ≡ true → r .outcome ≡ 0 → behind ≡ []
 history-done s b h t before behind r e c d = done-last before behind r (both c (eq-eqb _ _ d)) (sym (ap life e) ∙ history-belongs s b h .livesByTurns t)

@@ -60,21 +60,28 @@ module _ (q : Queue) where
   register-row n h = go (registered q n .answer) refl h
     where
       go : (a : Registered) → registered q n .answer ≡ a → birthEntry registerKind n a .changed ≡ true → Replays q (birthEntry registerKind n a .row) (after q (register n))
-      go (Registered.Token t) e k = replays q (rowOf 0 t 0 0 n) (registered q n .queue) (birthFits (registered q n .answer) (rowOf 0 t 0 0 n)) (ap (λ (a : Registered). birthFits a (rowOf 0 t 0 0 n)) e ∙ self-same (rowOf 0 t 0 0 n)) (at0 q (rowOf 0 t 0 0 n) refl)
+      go (Registered.Token t) e k =
+          replays q (rowOf 0 t 0 0 n) (registered q n .queue) (birthFits (registered q n .answer) (rowOf 0 t 0 0 n))
+          (ap (λ (a : Registered). birthFits a (rowOf 0 t 0 0 n)) e ∙ self-same (rowOf 0 t 0 0 n)) (at0 q (rowOf 0 t 0 0 n) refl)
       go (Registered.Refused m g) e k = clash k refl
 
   land-row : (n : ℕ) → birthEntry landKind n (landed q n .answer) .changed ≡ true → Replays q (birthEntry landKind n (landed q n .answer) .row) (after q (land n))
   land-row n h = go (landed q n .answer) refl h
     where
       go : (a : Registered) → landed q n .answer ≡ a → birthEntry landKind n a .changed ≡ true → Replays q (birthEntry landKind n a .row) (after q (land n))
-      go (Registered.Token t) e k = replays q (rowOf 1 t 0 0 n) (landed q n .queue) (birthFits (landed q n .answer) (rowOf 1 t 0 0 n)) (ap (λ (a : Registered). birthFits a (rowOf 1 t 0 0 n)) e ∙ self-same (rowOf 1 t 0 0 n)) (at1 q (rowOf 1 t 0 0 n) refl)
+      go (Registered.Token t) e k =
+          replays q (rowOf 1 t 0 0 n) (landed q n .queue) (birthFits (landed q n .answer) (rowOf 1 t 0 0 n))
+          (ap (λ (a : Registered). birthFits a (rowOf 1 t 0 0 n)) e ∙ self-same (rowOf 1 t 0 0 n)) (at1 q (rowOf 1 t 0 0 n) refl)
       go (Registered.Refused m g) e k = clash k refl
 
   pop-row : popEntry (popped q .answer) .changed ≡ true → Replays q (popEntry (popped q .answer) .row) (after q pop)
   pop-row h = go (popped q .answer) refl h
     where
       go : (a : Popped) → popped q .answer ≡ a → popEntry a .changed ≡ true → Replays q (popEntry a .row) (after q pop)
-      go (Popped.Work t n) e k = replays q (rowOf 2 (t .token) (t .attempt) 0 0) (popped q .queue) (popFits (popped q .answer) (rowOf 2 (t .token) (t .attempt) 0 0)) (ap (λ (a : Popped). popFits a (rowOf 2 (t .token) (t .attempt) 0 0)) e ∙ self-same (rowOf 2 (t .token) (t .attempt) 0 0)) (at2 q (rowOf 2 (t .token) (t .attempt) 0 0) refl)
+      go (Popped.Work t n) e k =
+          replays q (rowOf 2 (t .token) (t .attempt) 0 0) (popped q .queue) (popFits (popped q .answer) (rowOf 2 (t .token) (t .attempt) 0 0))
+          (ap (λ (a : Popped). popFits a (rowOf 2 (t .token) (t .attempt) 0 0)) e
+          ∙ self-same (rowOf 2 (t .token) (t .attempt) 0 0)) (at2 q (rowOf 2 (t .token) (t .attempt) 0 0) refl)
       go Popped.Nothing e k = clash k refl
       go (Popped.Refused m) e k = clash k refl
 
@@ -82,12 +89,17 @@ module _ (q : Queue) where
   retry-row h = go (retried q .answer) refl h
     where
       go : (a : Retried) → retried q .answer ≡ a → retryEntry a .changed ≡ true → Replays q (retryEntry a .row) (after q retry)
-      go (Retried.Again t) e k = replays q (rowOf 4 (t .token) (t .attempt) 0 0) (retried q .queue) (retryFits (retried q .answer) (rowOf 4 (t .token) (t .attempt) 0 0)) (ap (λ (a : Retried). retryFits a (rowOf 4 (t .token) (t .attempt) 0 0)) e ∙ self-same (rowOf 4 (t .token) (t .attempt) 0 0)) (at4 q (rowOf 4 (t .token) (t .attempt) 0 0) refl)
+      go (Retried.Again t) e k =
+          replays q (rowOf 4 (t .token) (t .attempt) 0 0) (retried q .queue) (retryFits (retried q .answer) (rowOf 4 (t .token) (t .attempt) 0 0))
+          (ap (λ (a : Retried). retryFits a (rowOf 4 (t .token) (t .attempt) 0 0)) e
+          ∙ self-same (rowOf 4 (t .token) (t .attempt) 0 0)) (at4 q (rowOf 4 (t .token) (t .attempt) 0 0) refl)
       go (Retried.Refused m) e k = clash k refl
 
   -- the ticket that was taken is of the queue's own domain
   own-ticket : (t : Ticket) (o k : ℕ) → isSettledAnswer (completed q t o k .answer) ≡ true → rowTicket q (rowOf 3 (t .token) (t .attempt) o k) ≡ t
-  own-ticket t o k = complete-by (λ (x : CompleteAnswer). isSettledAnswer (x .answer) ≡ true → rowTicket q (rowOf 3 (t .token) (t .attempt) o k) ≡ t) q t o k (λ _ h. clash h refl) (λ u _ _ _. same-parts (rowTicket q (rowOf 3 (t .token) (t .attempt) o k)) t (sym (selected-domain q t (u .sound) (u .selected))) refl refl)
+  own-ticket t o k =
+      complete-by (λ (x : CompleteAnswer). isSettledAnswer (x .answer) ≡ true → rowTicket q (rowOf 3 (t .token) (t .attempt) o k) ≡ t) q t o k (λ _ h. clash h refl)
+      (λ u _ _ _. same-parts (rowTicket q (rowOf 3 (t .token) (t .attempt) o k)) t (sym (selected-domain q t (u .sound) (u .selected))) refl refl)
 
   complete-row : (t : Ticket) (o k : ℕ) → isSettledAnswer (completed q t o k .answer) ≡ true → Replays q (rowOf 3 (t .token) (t .attempt) o k) (after q (complete t o k))
   complete-row t o k h =
@@ -103,14 +115,23 @@ module _ (q : Queue) where
     stage-fits e k d = pass _ w ∙ (pass _ d ∙ self-same (rowOf k 0 0 0 0))
 
     admit-row : (m : Bool) → differs (q .phase) (after q (admit m) .phase) ≡ true → Replays q (rowOf 5 0 0 0 0) (after q (admit m))
-    admit-row true h = record { fits = ap (λ (x : Replayed). x .fits) (at5 q (rowOf 5 0 0 0 0) refl) ∙ stage-fits Admit 5 (ap (λ (x : Queue). differs (q .phase) (x .phase)) (sym (admit-moves q w)) ∙ h); leaves = ap (λ (x : Replayed). x .queue) (at5 q (rowOf 5 0 0 0 0) refl) ∙ sym (admit-moves q w) }
+    admit-row true h = record {
+      fits = ap (λ (x : Replayed). x .fits) (at5 q (rowOf 5 0 0 0 0) refl) ∙ stage-fits Admit 5 (ap (λ (x : Queue). differs (q .phase) (x .phase)) (sym (admit-moves q w)) ∙ h);
+      leaves = ap (λ (x : Replayed). x .queue) (at5 q (rowOf 5 0 0 0 0) refl) ∙ sym (admit-moves q w);
+    }
     admit-row false h = clash h (ap (λ (x : Queue). differs (q .phase) (x .phase)) (unmoved q w) ∙ still (q .phase))
 
     end-row : differs (q .phase) (after q end .phase) ≡ true → Replays q (rowOf 6 0 0 0 0) (after q end)
-    end-row h = record { fits = ap (λ (x : Replayed). x .fits) (at6 q (rowOf 6 0 0 0 0) refl) ∙ stage-fits End 6 (ap (λ (x : Queue). differs (q .phase) (x .phase)) (sym (end-moves q w)) ∙ h); leaves = ap (λ (x : Replayed). x .queue) (at6 q (rowOf 6 0 0 0 0) refl) ∙ sym (end-moves q w) }
+    end-row h = record {
+      fits = ap (λ (x : Replayed). x .fits) (at6 q (rowOf 6 0 0 0 0) refl) ∙ stage-fits End 6 (ap (λ (x : Queue). differs (q .phase) (x .phase)) (sym (end-moves q w)) ∙ h);
+      leaves = ap (λ (x : Replayed). x .queue) (at6 q (rowOf 6 0 0 0 0) refl) ∙ sym (end-moves q w);
+    }
 
     cancel-row : differs (q .phase) (after q cancel .phase) ≡ true → Replays q (rowOf 7 0 0 0 0) (after q cancel)
-    cancel-row h = record { fits = ap (λ (x : Replayed). x .fits) (at7 q (rowOf 7 0 0 0 0) refl) ∙ stage-fits Cancel 7 (ap (λ (x : Queue). differs (q .phase) (x .phase)) (sym (cancel-moves q w)) ∙ h); leaves = ap (λ (x : Replayed). x .queue) (at7 q (rowOf 7 0 0 0 0) refl) ∙ sym (cancel-moves q w) }
+    cancel-row h = record {
+      fits = ap (λ (x : Replayed). x .fits) (at7 q (rowOf 7 0 0 0 0) refl) ∙ stage-fits Cancel 7 (ap (λ (x : Queue). differs (q .phase) (x .phase)) (sym (cancel-moves q w)) ∙ h);
+      leaves = ap (λ (x : Replayed). x .queue) (at7 q (rowOf 7 0 0 0 0) refl) ∙ sym (cancel-moves q w);
+    }
 
   -- ---- whichever the call: the row of its entry
   settled-changed : (t : Ticket) (o k : ℕ) (a : Completed) → completeEntry t o k a .changed ≡ true → isSettledAnswer a ≡ true
@@ -145,6 +166,10 @@ module _ (q : Queue) where
   call-row w pop h = pop-row h
   call-row w (complete t o k) h = rw (settled-row t o k (completed q t o k .answer)) (complete-row t o k (settled-changed t o k (completed q t o k .answer) h))
   call-row w retry h = retry-row h
-  call-row w (admit m) h = rw (told-row admitKind (q .phase) (admitted q m .queue .phase) (admitted q m .answer)) (admit-row w m (told-changed admitKind (q .phase) (admitted q m .queue .phase) (admitted q m .answer) h))
+  call-row w (admit m) h =
+      rw (told-row admitKind (q .phase) (admitted q m .queue .phase) (admitted q m .answer))
+      (admit-row w m (told-changed admitKind (q .phase) (admitted q m .queue .phase) (admitted q m .answer) h))
   call-row w end h = rw (told-row endKind (q .phase) (ended q .queue .phase) (ended q .answer)) (end-row w (told-changed endKind (q .phase) (ended q .queue .phase) (ended q .answer) h))
-  call-row w cancel h = rw (cancelled-row (q .phase) (cancelledBy q .queue .phase) (cancelledBy q .answer)) (cancel-row w (cancelled-changed (q .phase) (cancelledBy q .queue .phase) (cancelledBy q .answer) h))
+  call-row w cancel h =
+      rw (cancelled-row (q .phase) (cancelledBy q .queue .phase) (cancelledBy q .answer))
+      (cancel-row w (cancelled-changed (q .phase) (cancelledBy q .queue .phase) (cancelledBy q .answer) h))

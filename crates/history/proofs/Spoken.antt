@@ -109,15 +109,25 @@ module _ (s : Start) (b : Bench) (c : Call) (i : Stands s b) (w : Wrote b c) whe
         within = omega arith;
         spoken = rw rows-are (one-more-may (opening s) (rowsOf b) (w .row) .1 (i .spoken, omega arith, m));
         counted = ap length rows-are ∙ (length-append (rowsOf b) (w .row ∷ []) ∙ ap (λ (n : ℕ). n + 1) k);
-        ended = sym (w .replays .leaves) ∙ (ap (λ (p : Queue). replayed p (w .row) .queue) (i .ended) ∙ (sym (end-more (openedQueue s) (rowsOf b) (w .row)) ∙ ap (endOf (openedQueue s)) (sym rows-are)));
-        state = sym (ap stateOf (w .replays .leaves)) ∙ (a .leaves (w .replays .fits) ∙ (ap (λ (x : State). leave x (w .row)) (i .state) ∙ (sym (end-snoc (opened (opening s)) (rowsOf b) (w .row)) ∙ ap (endState (opened (opening s))) (sym rows-are))));
+        ended =
+            sym (w .replays .leaves)
+            ∙ (ap (λ (p : Queue). replayed p (w .row) .queue) (i .ended) ∙ (sym (end-more (openedQueue s) (rowsOf b) (w .row)) ∙ ap (endOf (openedQueue s)) (sym rows-are)));
+        state =
+            sym (ap stateOf (w .replays .leaves))
+            ∙ (a .leaves (w .replays .fits)
+            ∙ (ap (λ (x : State). leave x (w .row)) (i .state) ∙ (sym (end-snoc (opened (opening s)) (rowsOf b) (w .row)) ∙ ap (endState (opened (opening s))) (sym rows-are))));
         long = l ∙ i .long;
-        behind = words-behind (b .log) (b .used) (w .row) fits-in ∙ (ap (λ (n : ℕ). drop n (b .log)) five ∙ (sym (drop-drop 5 (b .used * 5) (b .log)) ∙ (ap (drop 5) (i .behind) ∙ (drop-drop 5 (b .used * 5) (s .memory) ∙ ap (λ (n : ℕ). drop n (s .memory)) (sym five)))));
+        behind =
+            words-behind (b .log) (b .used) (w .row) fits-in
+            ∙ (ap (λ (n : ℕ). drop n (b .log)) five
+            ∙ (sym (drop-drop 5 (b .used * 5) (b .log)) ∙ (ap (drop 5) (i .behind) ∙ (drop-drop 5 (b .used * 5) (s .memory) ∙ ap (λ (n : ℕ). drop n (s .memory)) (sym five)))));
       }
 
 pub stands : (s : Start) (b : Bench) → History s b → Stands s b
 stands s _ (opens e) = starts s e
-stands s _ (calls {b} h c a) = ⊎-elim (λ e. subst (λ (x : Bench). Stands s x) (sym e) (stands s b h)) (λ w. subst (λ (x : Bench). Stands s x) (sym (w .left)) (more s b c (stands s b h) w)) (step b (stands s b h .sound) c a)
+stands s _ (calls {b} h c a) =
+    ⊎-elim (λ e. subst (λ (x : Bench). Stands s x) (sym e) (stands s b h))
+    (λ w. subst (λ (x : Bench). Stands s x) (sym (w .left)) (more s b c (stands s b h) w)) (step b (stands s b h .sound) c a)
 
 -- every log that a history leaves belongs to the language of its opening
 pub history-belongs : (s : Start) (b : Bench) → History s b → Belongs (opening s) (rowsOf b)

@@ -41,19 +41,38 @@ benchBy b p n = if eqb (n .refusal) 0 then bench p (n .used) (n .log) else bench
 abbrev Noted : Bench → Queue → Entry → Outcome → Type 0
 Noted b p e o = (o .number ≡ noted (b .log) (b .used) e .refusal) × (o .bench ≡ benchBy b p (noted (b .log) (b .used) e))
 
-by-note : {A : Type 0} (says : A → Said) (refused : ℕ → A) → ((n : ℕ) → says (refused n) .number ≡ n) → (b : Bench) (answer : A) (p : Queue) (e : Entry) → e .refusal ≡ says answer .number → Noted b p e (outcome says (recordedBy refused (b .queue) (b .log) (b .used) answer p e))
-by-note {A} says refused reads b answer p e own = (recorded-number (λ (a : A). says a .number) refused reads (b .queue) (b .log) (b .used) answer p e own, through (λ (k : Kept A). bench (k .queue) (k .used) (k .log)) (eqb (noted (b .log) (b .used) e .refusal) 0) _ _ (λ _. refl))
+by-note : {A : Type 0} (says : A → Said) (refused : ℕ → A) → ((n : ℕ) → says (refused n) .number ≡ n) → (b : Bench) (answer : A) (p : Queue) (e : Entry)
+    → e .refusal ≡ says answer .number → Noted b p e (outcome says (recordedBy refused (b .queue) (b .log) (b .used) answer p e))
+by-note {A} says refused reads b answer p e own = (
+  recorded-number (λ (a : A). says a .number) refused reads (b .queue) (b .log) (b .used) answer p e own,
+  through (λ (k : Kept A). bench (k .queue) (k .used) (k .log)) (eqb (noted (b .log) (b .used) e .refusal) 0) _ _ (λ _. refl),
+)
 
 is-noted : (b : Bench) (c : Call) → Noted b (after (b .queue) c) (entryOf (b .queue) c) (recorded b c)
 unfolding registerRecorded landRecorded popRecorded completeRecorded retryRecorded admitRecorded endRecorded cancelRecorded
-is-noted b (register n) = let q = b .queue in by-note registeredSays (bornNot n) (λ _. refl) b (registered q n .answer) (registered q n .queue) (entryOf q (register n)) (birth-number registerKind n (registered q n .answer))
+is-noted b (register n) =
+    let q = b .queue in
+    by-note registeredSays (bornNot n) (λ _. refl) b (registered q n .answer) (registered q n .queue)
+    (entryOf q (register n)) (birth-number registerKind n (registered q n .answer))
 is-noted b (land n) = let q = b .queue in by-note registeredSays (bornNot n) (λ _. refl) b (landed q n .answer) (landed q n .queue) (entryOf q (land n)) (birth-number landKind n (landed q n .answer))
 is-noted b pop = let q = b .queue in by-note poppedSays Popped.Refused (λ _. refl) b (popped q .answer) (popped q .queue) (entryOf q pop) (work-number (popped q .answer))
-is-noted b (complete t o k) = let q = b .queue in by-note completedSays (settledNot k) (λ _. refl) b (completed q t o k .answer) (completed q t o k .queue) (entryOf q (complete t o k)) (settled-number t o k (completed q t o k .answer))
+is-noted b (complete t o k) =
+    let q = b .queue in
+    by-note completedSays (settledNot k) (λ _. refl) b (completed q t o k .answer) (completed q t o k .queue)
+    (entryOf q (complete t o k)) (settled-number t o k (completed q t o k .answer))
 is-noted b retry = let q = b .queue in by-note retriedSays Retried.Refused (λ _. refl) b (retried q .answer) (retried q .queue) (entryOf q retry) (renewed-number (retried q .answer))
-is-noted b (admit m) = let q = b .queue in by-note toldSays Told.Refused (λ _. refl) b (admitted q m .answer) (admitted q m .queue) (entryOf q (admit m)) (told-number admitKind (q .phase) (admitted q m .queue .phase) (admitted q m .answer))
-is-noted b end = let q = b .queue in by-note toldSays Told.Refused (λ _. refl) b (ended q .answer) (ended q .queue) (entryOf q end) (told-number endKind (q .phase) (ended q .queue .phase) (ended q .answer))
-is-noted b cancel = let q = b .queue in by-note cancelledSays Cancelled.Refused (λ _. refl) b (cancelledBy q .answer) (cancelledBy q .queue) (entryOf q cancel) (cancelled-number (q .phase) (cancelledBy q .queue .phase) (cancelledBy q .answer))
+is-noted b (admit m) =
+    let q = b .queue in
+    by-note toldSays Told.Refused (λ _. refl) b (admitted q m .answer) (admitted q m .queue)
+    (entryOf q (admit m)) (told-number admitKind (q .phase) (admitted q m .queue .phase) (admitted q m .answer))
+is-noted b end =
+    let q = b .queue in
+    by-note toldSays Told.Refused (λ _. refl) b (ended q .answer) (ended q .queue)
+    (entryOf q end) (told-number endKind (q .phase) (ended q .queue .phase) (ended q .answer))
+is-noted b cancel =
+    let q = b .queue in
+    by-note cancelledSays Cancelled.Refused (λ _. refl) b (cancelledBy q .answer) (cancelledBy q .queue)
+    (entryOf q cancel) (cancelled-number (q .phase) (cancelledBy q .queue .phase) (cancelledBy q .answer))
 
 module _ (b : Bench) (c : Call) where
   abbrev told : Note
@@ -71,5 +90,6 @@ module _ (b : Bench) (c : Call) where
   accepted-is h = let z : told .refusal ≡ 0 = sym (is-noted b c .0) ∙ h in (z, is-noted b c .1 ∙ hit _ (eq-eqb _ _ z))
 
   -- with room, a call that changes the queue is accepted, and its row is written
-  pub goes : Put (b .log) (b .used) → entryOf (b .queue) c .refusal ≡ 0 → entryOf (b .queue) c .changed ≡ true → (numberOf b c ≡ done) × (called b c ≡ bench (after (b .queue) c) (b .used + 1) (written (b .log) (b .used) (flat (entryOf (b .queue) c .row))))
+  pub goes : Put (b .log) (b .used) → entryOf (b .queue) c .refusal ≡ 0 → entryOf (b .queue) c .changed ≡ true
+      → (numberOf b c ≡ done) × (called b c ≡ bench (after (b .queue) c) (b .used + 1) (written (b .log) (b .used) (flat (entryOf (b .queue) c .row))))
   goes p r h = let e = note-goes (b .log) (b .used) (entryOf (b .queue) c) p r h in (is-noted b c .0 ∙ ap (λ (n : Note). n .refusal) e, is-noted b c .1 ∙ ap (benchBy b (after (b .queue) c)) e)

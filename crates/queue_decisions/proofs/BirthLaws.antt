@@ -20,4 +20,7 @@ module _ (number count : ℕ) where
 
   pub land-room : (phase : Phase) → Room (landRefusal number phase count)
   unfolding landRefusal
-  land-room phase = if-by Room (eqb number 0) _ _ (λ _ z. absurd (omega arith)) (λ _. if-by Room (not (isPending phase)) _ _ (λ _ z. absurd (omega arith)) (λ _. if-by Room (leb 64 count) _ _ (λ _ z. absurd (omega arith)) (λ l _. leb-false _ _ l)))
+  land-room phase =
+      if-by Room (eqb number 0) _ _ (λ _ z. absurd (omega arith))
+      (λ _. if-by Room (not (isPending phase)) _ _ (λ _ z. absurd (omega arith))
+      (λ _. if-by Room (leb 64 count) _ _ (λ _ z. absurd (omega arith)) (λ l _. leb-false _ _ l)))

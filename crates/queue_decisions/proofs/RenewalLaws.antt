@@ -34,7 +34,10 @@ module _ (failed : Bool) (slots : List ℕ) (next : ℕ) (t : Ticket) where
 
   low : (s : Selection) → Low (dueAgain failed slots next s)
   low Free = λ e. let o : _≡_ {A = ℕ} 0 1 = cc in absurd (omega arith)
-  low (Of r) = if-by Low (not (allowedBy failed slots next (Of r))) _ _ (λ _ e. let o : _≡_ {A = ℕ} 0 1 = cc in absurd (omega arith)) (λ a e. let p : renewedOf r next ≡ t = cc in let k : next ≡ t .attempt = ap (λ (x : Ticket). x .attempt) p in let h : next < 18446744073709551615 = retry-room failed (slotIn slots (r .token)) next (not-false _ a) in omega arith)
+  low (Of r) =
+      if-by Low (not (allowedBy failed slots next (Of r))) _ _ (λ _ e. let o : _≡_ {A = ℕ} 0 1 = cc in absurd (omega arith))
+      (λ a e. let p : renewedOf r next ≡ t = cc in let k : next ≡ t .attempt = ap (λ (x : Ticket). x .attempt) p in
+      let h : next < 18446744073709551615 = retry-room failed (slotIn slots (r .token)) next (not-false _ a) in omega arith)
 
   pub renewal-low : (s : Selection) → Low (retryDue failed s slots next)
   unfolding retryDue

@@ -24,10 +24,18 @@ and-behind false b c = refl
 two-parts : (q : Queue) → wellFormed q ≡ (placesFit q && selectionFits q)
 unfolding wellFormed placesFit selectionFits
 two-parts q = sym (
-    and-behind (tokensFit (q .count)) (bindingsFit (q .bound) && (restZero (q .count) (q .slots) && (restZero (q .bound) (q .bindings) && scopeFits (q .kind) (q .bound) (q .phase)))) (selectionFits q) ∙ ap (λ (b : Bool). tokensFit (q .count) && b) (
-    and-behind (bindingsFit (q .bound)) (restZero (q .count) (q .slots) && (restZero (q .bound) (q .bindings) && scopeFits (q .kind) (q .bound) (q .phase))) (selectionFits q) ∙ ap (λ (b : Bool). bindingsFit (q .bound) && b) (
-    and-behind (restZero (q .count) (q .slots)) (restZero (q .bound) (q .bindings) && scopeFits (q .kind) (q .bound) (q .phase)) (selectionFits q) ∙ ap (λ (b : Bool). restZero (q .count) (q .slots) && b) (
-    and-behind (restZero (q .bound) (q .bindings)) (scopeFits (q .kind) (q .bound) (q .phase)) (selectionFits q) ∙ ap (λ (b : Bool). restZero (q .bound) (q .bindings) && (scopeFits (q .kind) (q .bound) (q .phase) && (ticketFits (q .domain) (q .count) (q .next) (q .selection) && (marksFit (isSelected (q .selection)) (q .failed) (q .issued) && b))))
+    and-behind (tokensFit (q .count))
+    (bindingsFit (q .bound) && (restZero (q .count) (q .slots) && (restZero (q .bound) (q .bindings) && scopeFits (q .kind) (q .bound) (q .phase)))) (selectionFits q)
+    ∙ ap (λ (b : Bool). tokensFit (q .count) && b) (
+    and-behind (bindingsFit (q .bound))
+    (restZero (q .count) (q .slots) && (restZero (q .bound) (q .bindings) && scopeFits (q .kind) (q .bound) (q .phase))) (selectionFits q)
+    ∙ ap (λ (b : Bool). bindingsFit (q .bound) && b) (
+    and-behind (restZero (q .count) (q .slots)) (restZero (q .bound) (q .bindings) && scopeFits (q .kind) (q .bound) (q .phase)) (selectionFits q)
+    ∙ ap (λ (b : Bool). restZero (q .count) (q .slots) && b) (
+    and-behind (restZero (q .bound) (q .bindings)) (scopeFits (q .kind) (q .bound) (q .phase)) (selectionFits q)
+    ∙ ap (λ (b : Bool). restZero (q .bound) (q .bindings) &&
+    (scopeFits (q .kind) (q .bound) (q .phase) &&
+    (ticketFits (q .domain) (q .count) (q .next) (q .selection) && (marksFit (isSelected (q .selection)) (q .failed) (q .issued) && b))))
     (sym (and-true (selectedFits (q .failed) (q .issued) (q .slots) (q .selection))))))))
 
 -- a slot is a word
@@ -71,6 +79,9 @@ module _ (ws : List ℕ) where
   pub ticket-place : word ws atCount ≤ 64 → ticketFits (word ws atDomain) (word ws atCount) (word ws atNext) (Of (ticketIn ws)) ≡ true → word ws atTicketToken < 64
   ticket-place few t = ticket-below (word ws atDomain) (word ws atCount) (word ws atNext) (ticketIn ws) few t
 
-  pub own-fits : (word ws atSelected ≡ 0 → ⊥) → word ws atCount ≤ 64 → ticketFits (word ws atDomain) (word ws atCount) (word ws atNext) (Of (ticketIn ws)) ≡ true → selectionFits (queueOf ws) ≡ bothFit (markAt (word ws atFailed)) (markAt (word ws atIssued)) (word ws (atSlots + word ws atTicketToken))
+  pub own-fits : (word ws atSelected ≡ 0 → ⊥) → word ws atCount ≤ 64 → ticketFits (word ws atDomain) (word ws atCount) (word ws atNext) (Of (ticketIn ws)) ≡ true
+      → selectionFits (queueOf ws) ≡ bothFit (markAt (word ws atFailed)) (markAt (word ws atIssued)) (word ws (atSlots + word ws atTicketToken))
   unfolding selectionFits queueOf
-  own-fits n few t = ap (selectionFitsBy (queueOf ws)) (own-in n) ∙ (pass _ t ∙ ap (bothFit (markAt (word ws atFailed)) (markAt (word ws atIssued))) (slot-word ws (word ws atTicketToken) (ticket-place few t)))
+  own-fits n few t =
+      ap (selectionFitsBy (queueOf ws)) (own-in n)
+      ∙ (pass _ t ∙ ap (bothFit (markAt (word ws atFailed)) (markAt (word ws atIssued))) (slot-word ws (word ws atTicketToken) (ticket-place few t)))

@@ -24,7 +24,8 @@ unfolding isSound
 record-sound q s w = pass _ (words-encode q s) ∙ (ap wellFormed (queue-again q s) ∙ w)
 
 module _ (ws : List ℕ) where
-  pub unsound-by : (given : ℕ) (answered : Exported) → isSound ws ≡ false → (encodes ws ≡ true → wellFormed (queueOf ws) ≡ false → answered ≡ refusedOn broken given ws) → onRecord ws given answered ≡ refusedOn broken given ws
+  pub unsound-by : (given : ℕ) (answered : Exported) → isSound ws ≡ false
+      → (encodes ws ≡ true → wellFormed (queueOf ws) ≡ false → answered ≡ refusedOn broken given ws) → onRecord ws given answered ≡ refusedOn broken given ws
   unfolding isSound
   unsound-by given answered u f = by (encodes ws) refl
     where
@@ -32,7 +33,8 @@ module _ (ws : List ℕ) where
       by false e = hit _ (ap not e)
       by true e = miss _ (ap not e) ∙ f e (sym (pass (wellFormed (queueOf ws)) e) ∙ u)
 
-  pub unsound-on : (given : ℕ) (answered : Exported) → isSound ws ≡ false → (wellFormed (queueOf ws) ≡ false → answered ≡ refusedOn broken given (wordsOf (queueOf ws))) → onRecord ws given answered ≡ refusedOn broken given ws
+  pub unsound-on : (given : ℕ) (answered : Exported) → isSound ws ≡ false
+      → (wellFormed (queueOf ws) ≡ false → answered ≡ refusedOn broken given (wordsOf (queueOf ws))) → onRecord ws given answered ≡ refusedOn broken given ws
   unsound-on given answered u f = unsound-by given answered u (λ e w. f w ∙ ap (refusedOn broken given) (words-again ws e))
 
   module _ (s : isSound ws ≡ true) where

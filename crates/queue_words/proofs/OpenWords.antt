@@ -13,7 +13,8 @@ use Rattle.queue_words.specs.Words.{wordsOf}
 use Rattle.queue_words.specs.InPlace.{iteratorIn, runPut}
 
 -- ---- the walk that puts values
-pub put-more : (ws : List ℕ) (from : ℕ) (values : List ℕ) (i : ℕ) → length ws ≡ wordCount → from + length values ≤ wordCount → i < length values → set (paste ws from values i) (from + i) (getD values i 0) ≡ paste ws from values (i + 1)
+pub put-more : (ws : List ℕ) (from : ℕ) (values : List ℕ) (i : ℕ) → length ws ≡ wordCount → from + length values ≤ wordCount
+    → i < length values → set (paste ws from values i) (from + i) (getD values i 0) ≡ paste ws from values (i + 1)
 put-more ws from values i l few h = rw add-one (paste-suc ws from values i 0 (omega arith) h)
 
 pub put-all : (ws : List ℕ) (from : ℕ) (values : List ℕ) (i : ℕ) → i ≤ length values → length values ≤ i → paste ws from values i ≡ runPut ws from values
@@ -29,7 +30,11 @@ module _ (domain first : ℕ) (given : List ℕ) (few : length given ≤ 16) whe
   behind =
       let z : 0 + length given ≡ length given = omega arith in
       let zeros : List ℕ = replicate 16 0 in
-      ap (λ (r : List ℕ). take (length given) given ++ r) (sym (drop-drop (length given) atBindings base) ∙ drop-append-le (length given) zeros (length given ∷ []) (omega arith)) ∙ (sym (append-assoc (take (length given) given) (drop (length given) zeros) (length given ∷ [])) ∙ ap (λ (r : List ℕ). r ++ (length given ∷ [])) (ap (λ (n : ℕ). take (length given) given ++ drop n zeros) (sym z) ∙ filled-all given (length given) few (omega arith) (omega arith)))
+      ap (λ (r : List ℕ). take (length given) given ++ r) (sym (drop-drop (length given) atBindings base)
+      ∙ drop-append-le (length given) zeros (length given ∷ []) (omega arith))
+      ∙ (sym (append-assoc (take (length given) given) (drop (length given) zeros) (length given ∷ []))
+      ∙ ap (λ (r : List ℕ). r ++ (length given ∷ [])) (ap (λ (n : ℕ). take (length given) given ++ drop n zeros) (sym z)
+      ∙ filled-all given (length given) few (omega arith) (omega arith)))
 
   pub iterator-words : runPut base atBindings given ≡ wordsOf (iteratorOf domain first given)
   unfolding runPut iteratorOf wordsOf

@@ -68,7 +68,12 @@ module _ (d t a : ℕ) where
       none : (eqb d 0 && (eqb t 0 && eqb a 0)) ≡ true → Selected 0
       none z =
           let r : (eqb t 0 && eqb a 0) ≡ true = and-right (eqb d 0) (eqb t 0 && eqb a 0) z in
-          record { selected = refl; domain = sym (eqb-true d 0 (and-left (eqb d 0) _ z)); token = sym (eqb-true t 0 (and-left (eqb t 0) (eqb a 0) r)); attempt = sym (eqb-true a 0 (and-right (eqb t 0) (eqb a 0) r)) }
+          record {
+            selected = refl;
+            domain = sym (eqb-true d 0 (and-left (eqb d 0) _ z));
+            token = sym (eqb-true t 0 (and-left (eqb t 0) (eqb a 0) r));
+            attempt = sym (eqb-true a 0 (and-right (eqb t 0) (eqb a 0) r));
+          }
 
 -- ---- the words of a record are of their kinds
 mark-small : (b : Bool) → markWord b ≤ 1

@@ -26,10 +26,20 @@ module _ (ws : List ℕ) (l : length ws ≡ wordCount) where
   many : (j n : ℕ) {rest : List ℕ} → drop (j + n) ws ≡ rest → drop j ws ≡ take n (drop j ws) ++ rest
   many j n e = sym (take-append-drop n (drop j ws)) ∙ ap (λ (r : List ℕ). take n (drop j ws) ++ r) (drop-drop n j ws ∙ e)
 
-  apart : ws ≡ word ws atKind ∷ word ws atDomain ∷ word ws atNext ∷ (slotsIn ws ++ (word ws atCount ∷ word ws atSelected ∷ word ws atTicketDomain ∷ word ws atTicketToken ∷ word ws atTicketAttempt ∷ word ws atFailed ∷ word ws atIssued ∷ word ws atPhase ∷ (bindingsIn ws ++ (word ws atBound ∷ []))))
+  apart : ws ≡ word ws atKind ∷ word ws atDomain ∷ word ws atNext ∷ (slotsIn ws
+      ++ (word ws atCount ∷ word ws atSelected ∷ word ws atTicketDomain ∷ word ws atTicketToken ∷ word ws atTicketAttempt ∷ word ws atFailed ∷ word ws atIssued ∷ word ws atPhase ∷ (bindingsIn ws
+      ++ (word ws atBound ∷ []))))
   apart =
       let end : drop wordCount ws ≡ [] = drop-of-length-le ws {i = wordCount} (omega arith) in
-      one atKind (omega arith) (one atDomain (omega arith) (one atNext (omega arith) (many atSlots 64 (one atCount (omega arith) (one atSelected (omega arith) (one atTicketDomain (omega arith) (one atTicketToken (omega arith) (one atTicketAttempt (omega arith) (one atFailed (omega arith) (one atIssued (omega arith) (one atPhase (omega arith) (many atBindings 16 (one atBound (omega arith) end)))))))))))))
+      one atKind (omega arith)
+      (one atDomain (omega arith)
+      (one atNext (omega arith)
+      (many atSlots 64 (one atCount (omega arith)
+      (one atSelected (omega arith)
+      (one atTicketDomain (omega arith)
+      (one atTicketToken (omega arith)
+      (one atTicketAttempt (omega arith)
+      (one atFailed (omega arith) (one atIssued (omega arith) (one atPhase (omega arith) (many atBindings 16 (one atBound (omega arith) end)))))))))))))
 
 -- ---- what encodes says, part by part
 pub record Encoded (ws : List ℕ) : Type 0 where
@@ -64,7 +74,16 @@ unfolding wordsOf queueOf
 words-again ws h =
     let e = encoded ws h in
     let s = selection-again (word ws atTicketDomain) (word ws atTicketToken) (word ws atTicketAttempt) (word ws atSelected) (e .selected) (e .ticket) in
-    rw (kind-again (word ws atKind) (e .kind), s .selected, s .domain, s .token, s .attempt, mark-again (word ws atFailed) (e .failed), mark-again (word ws atIssued) (e .issued), phase-again (word ws atPhase) (e .phase)) (sym (apart ws (e .long)))
+    rw (
+      kind-again (word ws atKind) (e .kind),
+      s .selected,
+      s .domain,
+      s .token,
+      s .attempt,
+      mark-again (word ws atFailed) (e .failed),
+      mark-again (word ws atIssued) (e .issued),
+      phase-again (word ws atPhase) (e .phase),
+    ) (sym (apart ws (e .long)))
 
 -- ---- the words of a record encode it
 module _ (q : Queue) (s : Sized q) where
@@ -113,7 +132,15 @@ module _ (q : Queue) (s : Sized q) where
   pub words-encode : encodes (wordsOf q) ≡ true
   unfolding encodes wordsOf
   words-encode =
-      rw (word-behind q (s .slots) 1, word-behind q (s .slots) 2, word-behind q (s .slots) 3, word-behind q (s .slots) 4, word-behind q (s .slots) 5, word-behind q (s .slots) 6, word-behind q (s .slots) 7)
+      rw (
+        word-behind q (s .slots) 1,
+        word-behind q (s .slots) 2,
+        word-behind q (s .slots) 3,
+        word-behind q (s .slots) 4,
+        word-behind q (s .slots) 5,
+        word-behind q (s .slots) 6,
+        word-behind q (s .slots) 7,
+      )
       (pass _ (eq-eqb _ _ words-length) ∙ pass _ (marks-encode (q .kind) (q .selection) (q .failed) (q .issued) (q .phase)) ∙ ticket-encodes (q .selection))
 
 -- so an encoding is unique both ways

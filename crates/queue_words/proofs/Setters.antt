@@ -38,7 +38,10 @@ module _ (q : Queue) (l : length (q .slots) ≡ 64) where
       let b₁ = set b 1 (selectedWord s) in
       let b₂ = set b₁ 2 (domainWord s) in
       let b₃ = set b₂ 3 (tokenWord s) in
-      sym (ap (λ (r : List ℕ). set (set (set r atTicketDomain (domainWord s)) atTicketToken (tokenWord s)) atTicketAttempt (attemptWord s)) (set-behind q l b 1 (selectedWord s)) ∙ (ap (λ (r : List ℕ). set (set r atTicketToken (tokenWord s)) atTicketAttempt (attemptWord s)) (set-behind q l b₁ 2 (domainWord s)) ∙ (ap (λ (r : List ℕ). set r atTicketAttempt (attemptWord s)) (set-behind q l b₂ 3 (tokenWord s)) ∙ set-behind q l b₃ 4 (attemptWord s))))
+      sym (ap (λ (r : List ℕ). set (set (set r atTicketDomain (domainWord s)) atTicketToken (tokenWord s)) atTicketAttempt (attemptWord s))
+      (set-behind q l b 1 (selectedWord s))
+      ∙ (ap (λ (r : List ℕ). set (set r atTicketToken (tokenWord s)) atTicketAttempt (attemptWord s)) (set-behind q l b₁ 2 (domainWord s))
+      ∙ (ap (λ (r : List ℕ). set r atTicketAttempt (attemptWord s)) (set-behind q l b₂ 3 (tokenWord s)) ∙ set-behind q l b₃ 4 (attemptWord s))))
 
   pub failed-set : (b : Bool) → wordsOf (withFailed q b) ≡ set (wordsOf q) atFailed (markWord b)
   unfolding wordsOf

@@ -29,7 +29,8 @@ module _ (ws : List ℕ) (s : isSound ws ≡ true) where
   due-place t number next e =
       let q = queueOf ws in
       let l : length (q .slots) ≡ 64 = held ws s .slots in
-      let b : t .token < length (q .slots) = due-below (q .slots) (q .domain) (q .next) t number next (q .selection) (λ o h. let k : o .token < 64 = selected-below q o (sound-fits ws s) h in omega arith) (q .issued) (q .failed) e in
+      let b : t .token < length (q .slots) = due-below (q .slots) (q .domain) (q .next) t number next (q .selection)
+      (λ o h. let k : o .token < 64 = selected-below q o (sound-fits ws s) h in omega arith) (q .issued) (q .failed) e in
       omega arith
 
 -- words that are not sound are refused with 1
