@@ -15,4 +15,3 @@ pub use pops::seek;
 pub use renewals::Renewal;
 pub use renewals::retry_allowed;
 pub use renewals::retry_due;
-pub use slots::slot_at;

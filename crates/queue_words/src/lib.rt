@@ -13,7 +13,6 @@ pub use questions::finish_allowed;
 pub use questions::nothing_left;
 pub use questions::retry_allowed;
 pub use questions::target_matches;
-pub use search::newest_waiting;
 pub use search::sought_in;
 pub use steps::deselect;
 pub use steps::move_stage;
