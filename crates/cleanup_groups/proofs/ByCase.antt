@@ -13,7 +13,7 @@ use Rattle.queue_record.specs.Record.{Sized}
 use Rattle.queue_record.specs.WellFormed.{wellFormed}
 use Rattle.queue_record.specs.declared.search.Found.{Found}
 use Rattle.queue_record.specs.declared.search.Found.the-variants.{At, Missing}
-use Rattle.queue_record.specs.Openings.{scopeOf, iteratorOf, iteratorOpened}
+use Rattle.queue_record.specs.Openings.{scopeOf, iteratorOf, scopeOpened, iteratorOpened}
 use Rattle.queue_record.specs.declared.record.Queue.{Queue}
 use Rattle.queue_record.specs.declared.openings.Opened.{Opened}
 use Rattle.queue_record.specs.declared.openings.Opened.the-variants.{Open}
@@ -30,7 +30,7 @@ use Rattle.group_record.specs.declared.record.Groups.{Groups}
 use Rattle.group_asking.specs.declared.questions.Question.the-variants.{Free, Holds, Undrained}
 use Rattle.group_check.specs.declared.ids.Spot.{Spot}
 use Rattle.group_survey.specs.Whole.{retriesAll}
-use Rattle.group_lives.specs.Openings.{unsealed, roomAt, roomOf, nextDomain, refusedAdd, addedAt, added, addedScopeBy, addedScope, addedQueue, addedIteratorBy, addedIterator}
+use Rattle.group_lives.specs.Openings.{unsealed, roomAt, roomOf, nextDomain, refusedAdd, addedAt, added, addedQueue, addedOpening, addedScope, addedIterator}
 use Rattle.group_endings.specs.Endings.{refusedClose, removedAt, removed, sealedBy, sealedIn}
 use Rattle.group_lives.specs.declared.openings.AddAnswer.{AddAnswer}
 use Rattle.group_endings.specs.declared.endings.Closed.the-variants.{Done}
@@ -81,14 +81,14 @@ module _ (P : AddAnswer → Type 0) (g : Groups) (refused : (n : ℕ) → (n ≡
 
   pub scope-by : ((i : ℕ) → unsealed g ≡ Open → roomOf g ≡ Spot.At i → P (addedAt g (scopeOf (nextDomain g) 0) (Spot.At i))) → P (addedScope g)
   unfolding addedScope
-  scope-by there = by-gate P (addedScopeBy g) (unsealed g) (λ n e. refused n (gate-numbered g n e)) (λ u. put-by (scopeOf (nextDomain g) 0) (λ i e. there i u e))
+  scope-by there = by-gate P (addedOpening g (scopeOpened (nextDomain g) 0)) (unsealed g) (λ n e. refused n (gate-numbered g n e)) (λ u. put-by (scopeOf (nextDomain g) 0) (λ i e. there i u e))
 
   pub iterator-by : (bindings : List ℕ)
       → ((i : ℕ) → unsealed g ≡ Open → length bindings ≤ 16 → roomOf g ≡ Spot.At i → P (addedAt g (iteratorOf (nextDomain g) 0 bindings) (Spot.At i)))
       → P (addedIterator g bindings)
   unfolding addedIterator iteratorOpened
   iterator-by bindings there =
-      by-gate P (addedIteratorBy g bindings) (unsealed g) (λ n e. refused n (gate-numbered g n e))
+      by-gate P (addedOpening g (iteratorOpened (nextDomain g) 0 bindings)) (unsealed g) (λ n e. refused n (gate-numbered g n e))
       (λ u. if-by (λ (o : OpenAnswer). P (addedQueue g (o .queue) (o .answer))) (ltb 16 (length bindings)) _ _
       (λ _. refused 14 (λ z. omega arith)) (λ b. put-by (iteratorOf (nextDomain g) 0 bindings) (λ i e. there i u (ltb-false _ _ b) e)))
 

@@ -8,7 +8,7 @@ use lib.ListN.{length}
 use Rattle.choice.specs.Choice.{if_then_else_}
 use Rattle.queue_record.specs.Newest.{isThere}
 use Rattle.queue_record.specs.Refusals.{broken, noGroup, sealed, noId}
-use Rattle.queue_record.specs.Openings.{iteratorOpened}
+use Rattle.queue_record.specs.Openings.{scopeOpened, iteratorOpened}
 use Rattle.queue_record.specs.declared.record.Queue.{Queue}
 use Rattle.queue_record.specs.declared.openings.Opened.{Opened}
 use Rattle.queue_record.specs.declared.openings.Opened.the-variants.{Open}
@@ -26,7 +26,7 @@ use Rattle.group_check.specs.Ids.{spotAt, spotOf, gotAt, got}
 use Rattle.group_record.specs.declared.record.Groups.{Groups}
 use Rattle.group_check.specs.declared.ids.Spot.{Spot}
 use Rattle.group_asking.specs.declared.questions.Question.the-variants.{Free, Holds, Undrained}
-use Rattle.group_lives.specs.Openings.{newOf, unsealed, roomAt, addedAt, added, addedScopeBy, addedScope, addedQueue, addedIteratorBy, addedIterator}
+use Rattle.group_lives.specs.Openings.{newOf, unsealed, nextDomain, roomAt, addedAt, added, addedQueue, addedOpening, addedScope, addedIterator}
 use Rattle.group_endings.specs.Endings.{removedAt, removed, sealedBy, sealedIn}
 use Rattle.group_lives.specs.declared.openings.NewAnswer.{NewAnswer}
 use Rattle.group_lives.specs.declared.openings.AddAnswer.{AddAnswer}
@@ -63,12 +63,12 @@ module _ (g : Groups) where
 
   pub scope-number : numberOf (addedScope g) ≡ firstDue (openOrder g [])
   unfolding addedScope
-  scope-number = gate-number (addedScopeBy g) _ (λ _. refl) (room-number _)
+  scope-number = gate-number (addedOpening g (scopeOpened (nextDomain g) 0)) _ (λ _. refl) (room-number _)
 
   pub iterator-number : (bindings : List ℕ) → numberOf (addedIterator g bindings) ≡ firstDue (openOrder g bindings)
   unfolding addedIterator iteratorOpened
   iterator-number bindings =
-      gate-number (addedIteratorBy g bindings) _
+      gate-number (addedOpening g (iteratorOpened (nextDomain g) 0 bindings)) _
       (λ _. refl) (due-if (λ (o : OpenAnswer). numberOf (addedQueue g (o .queue) (o .answer))) (ltb 16 (length bindings)) _ _ refl (room-number _))
 
 -- ---- by id

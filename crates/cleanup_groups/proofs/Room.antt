@@ -9,7 +9,7 @@ use lib.Dec.{ltb}
 use lib.ListN.{length}
 use Rattle.choice.proofs.Ways.{miss, pass, clash, and-left, and-right}
 use Rattle.queue_record.specs.Newest.{isThere}
-use Rattle.queue_record.specs.Openings.{scopeOf, iteratorOf, iteratorOpened}
+use Rattle.queue_record.specs.Openings.{scopeOf, iteratorOf, scopeOpened, iteratorOpened}
 use Rattle.queue_record.specs.declared.openings.Opened.{Opened}
 use Rattle.queue_record.specs.declared.openings.Opened.the-variants.{Open}
 use Rattle.queue_record.specs.declared.openings.OpenAnswer.{OpenAnswer}
@@ -23,7 +23,7 @@ use Rattle.group_record.specs.declared.record.Groups.{Groups}
 use Rattle.group_asking.specs.declared.questions.Question.the-variants.{Free, Live}
 use Rattle.group_check.specs.declared.ids.Spot.{Spot}
 use Rattle.group_survey.specs.Whole.{roomFor, canAddOf, isEmptyOf}
-use Rattle.group_lives.specs.Openings.{unsealed, nextDomain, roomAt, roomOf, addedAt, addedScopeBy, addedScope, addedQueue, addedIteratorBy, addedIterator}
+use Rattle.group_lives.specs.Openings.{unsealed, nextDomain, roomAt, roomOf, addedAt, addedQueue, addedOpening, addedScope, addedIterator}
 use Rattle.group_lives.specs.declared.openings.Added.{Added}
 use Rattle.group_lives.specs.declared.openings.AddAnswer.{AddAnswer}
 use Rattle.group_lives.proofs.Room.{unsealed-means, means-unsealed, room-means}
@@ -35,16 +35,16 @@ module _ (g : Groups) where
   open-way : unsealed g ≡ Open → (i : ℕ) → firstYes g Free [] ≡ At i → g .next < 65536 → addedScope g .answer ≡ Added.Id (g .next)
   unfolding addedScope
   open-way u i f n =
-      ap (λ (o : Opened). addedScopeBy g o .answer) u
+      ap (λ (o : Opened). addedOpening g (scopeOpened (nextDomain g) 0) o .answer) u
       ∙ ap (λ (s : Spot). addedAt g (scopeOf (nextDomain g) 0) s .answer) (ap (roomAt g) f ∙ miss _ (lt-leb ids (g .next) n))
 
   -- the opening of an iterator passes the same way, once its bindings are few enough
   iterator-way : (bindings : List ℕ) → length bindings ≤ 16 → addedScope g .answer ≡ Added.Id (g .next) → unsealed g ≡ Open → addedIterator g bindings .answer ≡ Added.Id (g .next)
   unfolding addedScope addedIterator iteratorOpened
   iterator-way bindings k h u =
-      ap (λ (o : Opened). addedIteratorBy g bindings o .answer) u
+      ap (λ (o : Opened). addedOpening g (iteratorOpened (nextDomain g) 0 bindings) o .answer) u
       ∙ (ap (λ (o : OpenAnswer). addedQueue g (o .queue) (o .answer) .answer) (miss _ (le-ltb 16 (length bindings) k))
-      ∙ (same-way (roomOf g) ∙ (sym (ap (λ (o : Opened). addedScopeBy g o .answer) u) ∙ h)))
+      ∙ (same-way (roomOf g) ∙ (sym (ap (λ (o : Opened). addedOpening g (scopeOpened (nextDomain g) 0) o .answer) u) ∙ h)))
     where
       same-way : (s : Spot) → addedAt g (iteratorOf (nextDomain g) 0 bindings) s .answer ≡ addedAt g (scopeOf (nextDomain g) 0) s .answer
       same-way (Spot.Refused r) = refl

@@ -1,6 +1,8 @@
-// The public face of the groups: the record and the calls. No other call is public.
+// The public face of the groups: the record, the calls, the refusals' names and the limits. No other call is public.
 pub use group_check::GetAnswer;
 pub use group_check::Got;
+pub use group_check::IDS;
+pub use group_check::LAST_BASE;
 pub use group_check::get;
 pub use group_check::well_grouped;
 pub use group_endings::CloseAnswer;
@@ -61,6 +63,7 @@ pub use queue_record::Opened;
 pub use queue_record::Queue;
 pub use queue_record::Selection;
 pub use queue_record::Ticket;
+pub use queue_record::refusal;
 pub use queue_stages::Cancelled;
 pub use queue_steps::Completed;
 pub use queue_steps::Popped;

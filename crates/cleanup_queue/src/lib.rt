@@ -1,4 +1,5 @@
-// The public face of a cleanup queue: the record, its check, the openings and the calls. No other call is public.
+// The public face of a cleanup queue: the record, its check, the openings, the calls, the refusals' names and the limits. No other
+// call is public: blank, set_kind, select and move_to make records for who writes them by hand.
 pub use queue_births::RegisterAnswer;
 pub use queue_births::Registered;
 pub use queue_births::land;
@@ -14,14 +15,22 @@ pub use queue_questions::is_empty;
 pub use queue_questions::is_issued;
 pub use queue_questions::is_pending;
 pub use queue_questions::is_settled;
+pub use queue_record::BINDINGS;
+pub use queue_record::Heading;
 pub use queue_record::Kind;
 pub use queue_record::OpenAnswer;
 pub use queue_record::Opened;
 pub use queue_record::Queue;
 pub use queue_record::Selection;
+pub use queue_record::TOKENS;
 pub use queue_record::Ticket;
+pub use queue_record::blank;
 pub use queue_record::iterator;
+pub use queue_record::move_to;
+pub use queue_record::refusal;
 pub use queue_record::scope;
+pub use queue_record::select;
+pub use queue_record::set_kind;
 pub use queue_record::well_formed;
 pub use queue_stages::CancelAnswer;
 pub use queue_stages::Cancelled;

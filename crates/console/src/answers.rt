@@ -1,4 +1,8 @@
 // What a line answers: the number of refusal, the case and its values, from each call's own answer.
+use cleanup_groups::Added;
+use cleanup_groups::Closed;
+use cleanup_groups::LenTold;
+use cleanup_log::Read;
 use cleanup_queue::Cancelled;
 use cleanup_queue::Completed;
 use cleanup_queue::DomainTold;
@@ -7,11 +11,7 @@ use cleanup_queue::Popped;
 use cleanup_queue::Registered;
 use cleanup_queue::Retried;
 use cleanup_queue::Told;
-use group_endings::Closed;
-use group_lives::Added;
-use group_survey::LenTold;
-use log_reader::Read;
-use queue_record::refusal::BAD_TEXT;
+use cleanup_queue::refusal::BAD_TEXT;
 
 pub struct Said {
     pub result: u64,

@@ -4,8 +4,8 @@ use cleanup_queue::Phase;
 use cleanup_queue::Queue;
 use cleanup_queue::Selection;
 use cleanup_queue::Ticket;
-use queue_record::move_to;
-use queue_record::select;
+use cleanup_queue::move_to;
+use cleanup_queue::select;
 
 // Whether the field, the index and the value are in their ranges.
 pub fn fits(field: u64, index: u64, value: u64) -> bool {
@@ -23,7 +23,7 @@ fn set_kind(q: Queue, value: u64) -> Queue {
         0 => Kind::Scope,
         _ => Kind::Iterator,
     };
-    queue_record::set_kind(q, kind)
+    cleanup_queue::set_kind(q, kind)
 }
 
 fn set_phase(q: Queue, value: u64) -> Queue {

@@ -3,14 +3,14 @@ use crate::answers;
 use crate::lives::Grouped;
 use crate::lives::leave;
 use crate::script::Call;
+use cleanup_groups::Groups;
 use cleanup_queue::Ticket;
-use group_record::Groups;
 
 fn birth(g: Groups, call: Call) -> Grouped {
     let born = if call.number == 70 {
-        group_steps::register(g, call.a, call.b)
+        cleanup_groups::register(g, call.a, call.b)
     } else {
-        group_steps::land(g, call.a, call.b)
+        cleanup_groups::land(g, call.a, call.b)
     };
     let answer = born.answer;
     let after = born.groups;
@@ -18,7 +18,7 @@ fn birth(g: Groups, call: Call) -> Grouped {
 }
 
 fn pop(g: Groups, id: u64) -> Grouped {
-    let popped = group_steps::pop(g, id);
+    let popped = cleanup_groups::pop(g, id);
     let answer = popped.answer;
     let after = popped.groups;
     leave(after, answers::popped(answer))
@@ -31,14 +31,14 @@ fn complete(g: Groups, call: Call, domain: u64, kept: u64) -> Grouped {
         token: call.b,
         attempt: call.c,
     };
-    let completed = group_steps::complete(g, call.a, ticket, call.d, kept);
+    let completed = cleanup_groups::complete(g, call.a, ticket, call.d, kept);
     let answer = completed.answer;
     let after = completed.groups;
     leave(after, answers::completed(answer))
 }
 
 fn retry(g: Groups, id: u64) -> Grouped {
-    let retried = group_steps::retry(g, id);
+    let retried = cleanup_groups::retry(g, id);
     let answer = retried.answer;
     let after = retried.groups;
     leave(after, answers::retried(answer))
@@ -47,9 +47,9 @@ fn retry(g: Groups, id: u64) -> Grouped {
 fn stage(g: Groups, call: Call, list: &[u64]) -> Grouped {
     let number = call.number;
     let staged = match number {
-        75 => group_stages::admit(g, call.a, list),
-        76 => group_stages::admit_without(g, call.a),
-        _ => group_stages::end(g, call.a),
+        75 => cleanup_groups::admit(g, call.a, list),
+        76 => cleanup_groups::admit_without(g, call.a),
+        _ => cleanup_groups::end(g, call.a),
     };
     let answer = staged.answer;
     let after = staged.groups;
@@ -57,14 +57,14 @@ fn stage(g: Groups, call: Call, list: &[u64]) -> Grouped {
 }
 
 fn cancel(g: Groups, id: u64) -> Grouped {
-    let cancelled = group_stages::cancel(g, id);
+    let cancelled = cleanup_groups::cancel(g, id);
     let answer = cancelled.answer;
     let after = cancelled.groups;
     leave(after, answers::cancelled(answer))
 }
 
 pub fn retry_all(g: Groups) -> Grouped {
-    let retried = group_rounds::retry_all(g);
+    let retried = cleanup_groups::retry_all(g);
     let answer = retried.answer;
     let after = retried.groups;
     leave(after, answers::told(answer))

@@ -1,8 +1,8 @@
 // What the console holds beside the log and the group record, and what a line leaves of it.
 use crate::answers;
 use crate::answers::Said;
+use cleanup_groups::Groups;
 use cleanup_queue::Queue;
-use group_record::Groups;
 ghost use Rattle.io.specs.Counts.{Counts};
 
 pub struct Held {
@@ -21,7 +21,7 @@ pub struct Held {
 }
 
 pub fn start() -> Held {
-    let blank = cleanup_queue::scope(0, 0);
+    let blank = cleanup_queue::blank();
     Held {
         queue: blank,
         seen: blank,
@@ -36,7 +36,7 @@ pub fn start() -> Held {
 
 // The new record of base 0.
 pub fn first_groups() -> Groups {
-    let made = group_lives::new(0);
+    let made = cleanup_groups::new(0);
     made.groups
 }
 

@@ -2,7 +2,7 @@
 use crate::answers;
 use crate::answers::Said;
 use crate::script::Call;
-use group_record::Groups;
+use cleanup_groups::Groups;
 
 pub struct Grouped {
     pub said: Said,
@@ -17,7 +17,7 @@ pub fn leave(g: Groups, said: Said) -> Grouped {
 }
 
 fn make(base: u64) -> Grouped {
-    let made = group_lives::new(base);
+    let made = cleanup_groups::new(base);
     let answer = made.answer;
     let after = made.groups;
     leave(after, answers::opened(answer))
@@ -25,9 +25,9 @@ fn make(base: u64) -> Grouped {
 
 fn add(g: Groups, call: Call, list: &[u64]) -> Grouped {
     let added = if call.number == 61 {
-        group_lives::add_scope(g)
+        cleanup_groups::add_scope(g)
     } else {
-        group_lives::add_iterator(g, list)
+        cleanup_groups::add_iterator(g, list)
     };
     let answer = added.answer;
     let after = added.groups;
@@ -36,9 +36,9 @@ fn add(g: Groups, call: Call, list: &[u64]) -> Grouped {
 
 fn close(g: Groups, call: Call) -> Grouped {
     let closed = if call.number == 63 {
-        group_endings::remove(g, call.a)
+        cleanup_groups::remove(g, call.a)
     } else {
-        group_endings::seal(g)
+        cleanup_groups::seal(g)
     };
     let answer = closed.answer;
     let after = closed.groups;

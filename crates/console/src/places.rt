@@ -4,9 +4,7 @@ use crate::fields;
 use crate::lives::Grouped;
 use crate::lives::leave;
 use crate::script::Call;
-use group_record::Groups;
-use group_record::put_place;
-use group_record::put_queue;
+use cleanup_groups::Groups;
 
 // Whether what the line names is in its ranges; the place is looked at where it is used.
 fn fits(call: Call) -> bool {
@@ -44,14 +42,15 @@ fn set_place(g: Groups, call: Call) -> Grouped {
     if call.number == 133 {
         let q = place.queue;
         let after = fields::set_field(q, call.b, call.c, call.d);
-        return leave(put_queue(g, at, after), answers::done());
-    }
-    if call.b == 0 {
+        place.queue = after;
+    } else if call.b == 0 {
         place.id = call.c;
     } else {
         place.live = call.c == 1;
     }
-    leave(put_place(g, at, place), answers::done())
+    let mut groups = g;
+    groups.places[at] = place;
+    leave(groups, answers::done())
 }
 
 pub fn set_groups(g: Groups, call: Call) -> Grouped {

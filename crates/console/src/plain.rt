@@ -9,11 +9,11 @@ use cleanup_queue::Queue;
 use cleanup_queue::Ticket;
 
 fn open(used: u64, call: Call, list: &[u64]) -> Left {
-    if call.number == 0 {
-        let q = cleanup_queue::scope(call.a, call.b);
-        return leaves(q, used, answers::done());
-    }
-    let opened = cleanup_queue::iterator(call.a, call.b, list);
+    let opened = if call.number == 0 {
+        cleanup_queue::scope(call.a, call.b)
+    } else {
+        cleanup_queue::iterator(call.a, call.b, list)
+    };
     let answer = opened.answer;
     let after = opened.queue;
     leaves(after, used, answers::opened(answer))

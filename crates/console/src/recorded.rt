@@ -7,11 +7,12 @@ use crate::held::keep_seen;
 use crate::held::leaves;
 use crate::held::no_call;
 use crate::script::Call;
+use cleanup_log::Heading;
+use cleanup_log::RegisterRecorded;
+use cleanup_log::StageRecorded;
 use cleanup_queue::Kind;
 use cleanup_queue::Queue;
 use cleanup_queue::Ticket;
-use log_births::RegisterRecorded;
-use log_stages::StageRecorded;
 
 fn born(a: RegisterRecorded) -> Left {
     let answer = a.answer;
@@ -21,13 +22,13 @@ fn born(a: RegisterRecorded) -> Left {
 
 fn birth(q: Queue, used: u64, call: Call, log: &mut [u64]) -> Left {
     if call.number == 30 {
-        return born(log_births::register_recorded(q, call.a, log, used));
+        return born(cleanup_log::register_recorded(q, call.a, log, used));
     }
-    born(log_births::land_recorded(q, call.a, log, used))
+    born(cleanup_log::land_recorded(q, call.a, log, used))
 }
 
 fn pop(q: Queue, used: u64, log: &mut [u64]) -> Left {
-    let popped = log_attempts::pop_recorded(q, log, used);
+    let popped = cleanup_log::pop_recorded(q, log, used);
     let answer = popped.answer;
     let after = popped.queue;
     leaves(after, popped.used, answers::popped(answer))
@@ -39,14 +40,14 @@ fn complete(q: Queue, used: u64, domain: u64, call: Call, log: &mut [u64]) -> Le
         token: call.a,
         attempt: call.b,
     };
-    let completed = log_attempts::complete_recorded(q, ticket, call.c, call.d, log, used);
+    let completed = cleanup_log::complete_recorded(q, ticket, call.c, call.d, log, used);
     let answer = completed.answer;
     let after = completed.queue;
     leaves(after, completed.used, answers::completed(answer))
 }
 
 fn retry(q: Queue, used: u64, log: &mut [u64]) -> Left {
-    let retried = log_attempts::retry_recorded(q, log, used);
+    let retried = cleanup_log::retry_recorded(q, log, used);
     let answer = retried.answer;
     let after = retried.queue;
     leaves(after, retried.used, answers::retried(answer))
@@ -61,14 +62,14 @@ fn staged(a: StageRecorded) -> Left {
 fn stage(q: Queue, used: u64, call: Call, list: &[u64], log: &mut [u64]) -> Left {
     let number = call.number;
     match number {
-        35 => staged(log_stages::admit_recorded(q, list, log, used)),
-        36 => staged(log_stages::admit_without_recorded(q, log, used)),
-        _ => staged(log_stages::end_recorded(q, log, used)),
+        35 => staged(cleanup_log::admit_recorded(q, list, log, used)),
+        36 => staged(cleanup_log::admit_without_recorded(q, log, used)),
+        _ => staged(cleanup_log::end_recorded(q, log, used)),
     }
 }
 
 fn cancel(q: Queue, used: u64, log: &mut [u64]) -> Left {
-    let cancelled = log_stages::cancel_recorded(q, log, used);
+    let cancelled = cleanup_log::cancel_recorded(q, log, used);
     let answer = cancelled.answer;
     let after = cancelled.queue;
     leaves(after, cancelled.used, answers::cancelled(answer))
@@ -94,7 +95,12 @@ pub fn read(h: Held, call: Call, list: &[u64], log: &[u64]) -> Turned {
         1 => Kind::Iterator,
         _ => return no_call(h),
     };
-    let reading = log_reader::read_log(kind, call.b, call.c, list, log);
+    let heading = Heading {
+        kind: kind,
+        domain: call.b,
+        first: call.c,
+    };
+    let reading = cleanup_log::read_log(heading, list, log);
     let answer = reading.answer;
     let q = reading.queue;
     keep_seen(h, q, answers::read(answer))

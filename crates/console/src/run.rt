@@ -9,7 +9,7 @@ use crate::script::Step;
 use crate::setting;
 use crate::subjects;
 use crate::subjects::Subject;
-use queue_record::refusal::BAD_TEXT;
+use cleanup_queue::refusal::BAD_TEXT;
 ghost use Prim.Native.Nat.{_<_};
 
 // A proved run has to end, and no script has so many lines.

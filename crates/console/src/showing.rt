@@ -5,11 +5,11 @@ use crate::out::Pen;
 use crate::out::end_line;
 use crate::out::number;
 use crate::out::numbers;
+use cleanup_groups::Groups;
 use cleanup_queue::Kind;
 use cleanup_queue::Phase;
 use cleanup_queue::Queue;
 use cleanup_queue::Selection;
-use group_record::Groups;
 
 fn bit(yes: bool) -> u64 {
     if yes {

@@ -18,8 +18,8 @@ use crate::recorded;
 use crate::script::Call;
 use crate::setting;
 use crate::showing;
-use group_check::Got;
-use group_record::Groups;
+use cleanup_groups::Got;
+use cleanup_groups::Groups;
 
 pub enum Subject {
     // The queue, the log and what else is held.
@@ -95,7 +95,7 @@ pub fn on_groups(g: Groups, call: Call, h: Held) -> Grouped {
 
 // A refused get leaves what was seen.
 pub fn on_seen(h: Held, g: Groups, id: u64) -> Turned {
-    let found = group_check::get(g, id);
+    let found = cleanup_groups::get(g, id);
     let answer = found.answer;
     let q = found.queue;
     match answer {

@@ -5,9 +5,9 @@ use group_asking::first_where;
 use group_record::Groups;
 use queue_record::Found;
 use queue_record::Queue;
+use queue_record::blank;
 use queue_record::refusal::BROKEN;
 use queue_record::refusal::NO_GROUP;
-use queue_record::scope;
 ghost use mathlib.Core.Path.{_≡_};
 ghost use mathlib.Core.List.{[]};
 ghost use Prim.Native.Nat.{_<_};
@@ -68,10 +68,10 @@ pub fn get(g: Groups, id: u64) -> GetAnswer
     let spot = look_up(g, id);
     match spot {
         Spot::Refused(refusal) => {
-            let blank = scope(0, 0);
+            let none = blank();
             GetAnswer {
                 answer: Got::Refused(refusal),
-                queue: blank,
+                queue: none,
             }
         }
         Spot::At(at) => {

@@ -7,10 +7,11 @@ use Rattle.choice.specs.Choice.{if_then_else_}
 use Rattle.queue_record.specs.declared.search.Found.{Found}
 use Rattle.queue_record.specs.declared.search.Found.the-variants.{At, Missing}
 use Rattle.queue_record.specs.Refusals.{broken, groupsFull, sealed, noId}
-use Rattle.queue_record.specs.Openings.{scopeOf, iteratorOpened}
+use Rattle.queue_record.specs.Openings.{scopeOf, scopeOpened, iteratorOpened}
 use Rattle.queue_record.specs.declared.record.Queue.{Queue}
 use Rattle.queue_record.specs.declared.openings.Opened.{Opened}
 use Rattle.queue_record.specs.declared.openings.Opened.the-variants.{Open}
+use Rattle.queue_record.specs.declared.openings.OpenAnswer.{OpenAnswer}
 use Rattle.group_record.specs.Record.{emptyOf, opening}
 use Rattle.group_asking.specs.Scan.{firstYes}
 use Rattle.group_check.specs.WellFormed.{lastBase, ids, wellGrouped}
@@ -60,24 +61,20 @@ added g q = addedAt g q (roomOf g)
 abbrev pub nextDomain : Groups → ℕ
 nextDomain g = g .base + g .next
 
--- open starts each queue with first attempt 0
-abbrev pub addedScopeBy : Groups → Opened → AddAnswer
-addedScopeBy g (Opened.Refused refusal) = refusedAdd g refusal
-addedScopeBy g Open = added g (scopeOf (nextDomain g) 0)
-
--- open of a scope: 1, 12, 11, 19
-unfoldable pub addedScope : Groups → AddAnswer
-addedScope g = addedScopeBy g (unsealed g)
-
--- where the queue's opening is not refused with 14
+-- a refusal of the queue's own opening is passed on
 abbrev pub addedQueue : Groups → Queue → Opened → AddAnswer
 addedQueue g q (Opened.Refused refusal) = refusedAdd g refusal
 addedQueue g q Open = added g q
 
-abbrev pub addedIteratorBy : Groups → List ℕ → Opened → AddAnswer
-addedIteratorBy g bindings (Opened.Refused refusal) = refusedAdd g refusal
-addedIteratorBy g bindings Open = addedQueue g (iteratorOpened (nextDomain g) 0 bindings .queue) (iteratorOpened (nextDomain g) 0 bindings .answer)
+-- 1 and 12 come before it
+abbrev pub addedOpening : Groups → OpenAnswer → Opened → AddAnswer
+addedOpening g x (Opened.Refused refusal) = refusedAdd g refusal
+addedOpening g x Open = addedQueue g (x .queue) (x .answer)
+
+-- open of a scope: 1, 12, 11, 19; open starts each queue with first attempt 0
+unfoldable pub addedScope : Groups → AddAnswer
+addedScope g = addedOpening g (scopeOpened (nextDomain g) 0) (unsealed g)
 
 -- open of an iterator: 1, 12, 14, 11, 19
 unfoldable pub addedIterator : Groups → List ℕ → AddAnswer
-addedIterator g bindings = addedIteratorBy g bindings (unsealed g)
+addedIterator g bindings = addedOpening g (iteratorOpened (nextDomain g) 0 bindings) (unsealed g)

@@ -9,6 +9,7 @@ use group_record::Groups;
 use group_record::empty;
 use group_record::put_new;
 use queue_record::Found;
+use queue_record::OpenAnswer;
 use queue_record::Opened;
 use queue_record::Queue;
 use queue_record::iterator;
@@ -18,7 +19,7 @@ use queue_record::refusal::NO_ID;
 use queue_record::refusal::SEALED;
 use queue_record::scope;
 ghost use mathlib.Core.Path.{_≡_};
-ghost use Rattle.group_lives.specs.Openings.{newOf, unsealed, roomOf, refusedAdd, added, addedScope, addedIterator};
+ghost use Rattle.group_lives.specs.Openings.{newOf, unsealed, roomOf, refusedAdd, added, addedQueue, addedScope, addedIterator};
 
 pub struct NewAnswer {
     pub answer: Opened,
@@ -36,7 +37,8 @@ pub fn new(base: u64) -> NewAnswer
             groups: none,
         };
     }
-    let root = scope(base, 0);
+    let opening = scope(base, 0);
+    let root = opening.queue;
     let groups = put_new(empty(base), 0, root);
     NewAnswer {
         answer: Opened::Open,
@@ -107,6 +109,18 @@ fn add(g: Groups, queue: Queue) -> AddAnswer
     }
 }
 
+// Where the queue's own opening is refused, that number is passed on.
+fn add_opened(g: Groups, opening: OpenAnswer) -> AddAnswer
+    ensures { λ r. ⌜ r ≡ addedQueue g (opening .queue) (opening .answer) ⌝ }
+{
+    let answer = opening.answer;
+    let queue = opening.queue;
+    match answer {
+        Opened::Refused(refusal) => add_refused(g, refusal),
+        Opened::Open => add(g, queue),
+    }
+}
+
 // A scope has no bindings: it never gets 14.
 pub fn add_scope(g: Groups) -> AddAnswer
     ensures { λ r. ⌜ r ≡ addedScope g ⌝ }
@@ -115,8 +129,8 @@ pub fn add_scope(g: Groups) -> AddAnswer
     match gate {
         Opened::Refused(refusal) => add_refused(g, refusal),
         Opened::Open => {
-            let queue = scope(g.base + g.next, 0);
-            add(g, queue)
+            let opening = scope(g.base + g.next, 0);
+            add_opened(g, opening)
         }
     }
 }
@@ -130,12 +144,7 @@ pub fn add_iterator(g: Groups, bindings: &[u64]) -> AddAnswer
         Opened::Refused(refusal) => add_refused(g, refusal),
         Opened::Open => {
             let opening = iterator(g.base + g.next, 0, bindings);
-            let answer = opening.answer;
-            let queue = opening.queue;
-            match answer {
-                Opened::Refused(refusal) => add_refused(g, refusal),
-                Opened::Open => add(g, queue),
-            }
+            add_opened(g, opening)
         }
     }
 }

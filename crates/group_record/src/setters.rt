@@ -2,7 +2,7 @@
 use crate::record::Groups;
 use crate::record::Place;
 use queue_record::Queue;
-use queue_record::scope;
+use queue_record::blank;
 ghost use mathlib.Core.Path.{_≡_};
 ghost use Prim.Native.Nat.{_<_};
 ghost use Rattle.group_record.specs.Record.{freePlace, livePlace, emptyOf, withPlace, withQueue, opening, sealing};
@@ -10,11 +10,11 @@ ghost use Rattle.group_record.specs.Record.{freePlace, livePlace, emptyO
 pub fn free_place() -> Place
     ensures { λ r. ⌜ r ≡ freePlace ⌝ }
 {
-    let blank = scope(0, 0);
+    let none = blank();
     Place {
         id: 0,
         live: false,
-        queue: blank,
+        queue: none,
     }
 }
 

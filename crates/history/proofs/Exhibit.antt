@@ -3,14 +3,14 @@ use Prim.Native.Nat.{ℕ}
 use mathlib.Core.Path.{refl}
 use mathlib.Core.List.{List, [], _∷_}
 use native.Mathlib.Omega.{arith}
-use Rattle.queue_record.specs.Openings.{iteratorOpened}
+use Rattle.queue_record.specs.Openings.{headingOf, openingOf, iteratorOpened}
 use Rattle.queue_record.specs.declared.record.Kind.{Kind}
 use Rattle.log_rows.specs.Rows.{rowOf}
 use Rattle.log_rows.specs.declared.Row.{Row}
 use Rattle.log_language.specs.RowKinds.{kindAt}
 use Rattle.log_language.specs.Language.{Belongs}
 use Rattle.log_language.proofs.FirstBad.{belongs-stop}
-use Rattle.history.specs.Histories.{Start, opening, Leaves}
+use Rattle.history.specs.Histories.{Start, setting, Leaves}
 use Rattle.history.proofs.Demand.{language-spoken}
 
 -- an iterator with one binding, attempts from 5, and memory for twelve rows and three words more
@@ -19,7 +19,7 @@ lent =
     9 ∷ 9 ∷ 9 ∷ 9 ∷ 9 ∷ 9 ∷ 9 ∷ 9 ∷ 9 ∷ 9 ∷ 9 ∷ 9 ∷ 9 ∷ 9 ∷ 9 ∷ 9 ∷ 9 ∷ 9 ∷ 9 ∷ 9 ∷ 9 ∷ 9 ∷ 9 ∷ 9 ∷ 9 ∷ 9 ∷ 9 ∷ 9 ∷ 9 ∷ 9 ∷ 9 ∷ 9 ∷ 9 ∷ 9 ∷ 9 ∷ 9 ∷ 9 ∷ 9 ∷ 9 ∷ 9 ∷ 9 ∷ 9 ∷ 9 ∷ 9 ∷ 9 ∷ 9 ∷ 9 ∷ 9 ∷ 9 ∷ 9 ∷ 9 ∷ 9 ∷ 9 ∷ 9 ∷ 9 ∷ 9 ∷ 9 ∷ 9 ∷ 9 ∷ 9 ∷ 9 ∷ 9 ∷ 9 ∷ []
 
 abbrev pub shown : Start
-shown = record { kind = Kind.Iterator; domain = 4; first = 5; bindings = 3 ∷ []; memory = lent }
+shown = record { opening = openingOf (headingOf Kind.Iterator 4 5) (3 ∷ []); memory = lent }
 
 abbrev pub ofEachKind : List Row
 ofEachKind =
@@ -27,9 +27,9 @@ ofEachKind =
     rowOf 3 1 5 1 73 ∷ rowOf 4 1 6 0 0 ∷ rowOf 2 1 6 0 0 ∷ rowOf 3 1 6 0 0 ∷ rowOf 2 0 7 0 0 ∷ rowOf 7 0 0 0 0 ∷
     []
 
-each-belongs : Belongs (opening shown) ofEachKind
+each-belongs : Belongs (setting shown) ofEachKind
 unfolding kindAt
-each-belongs = belongs-stop (opening shown) ofEachKind .1 refl
+each-belongs = belongs-stop (setting shown) ofEachKind .1 refl
 
 -- a history that leaves them
 pub each-kind-left : Leaves shown ofEachKind

@@ -7,7 +7,7 @@ use mathlib.Core.List.{List, [], _∷_, _++_}
 use native.Mathlib.Omega.{arith}
 use lib.ListN.{length, length-append}
 use Rattle.choice.proofs.Ways.{pass, and-left, and-right}
-use Rattle.queue_record.specs.Openings.{scopeOf, iteratorOf}
+use Rattle.queue_record.specs.Openings.{scopeOf, iteratorOf, openedBy, openedAs}
 use Rattle.queue_record.specs.declared.record.Kind.{Kind}
 use Rattle.queue_record.specs.declared.record.Kind.the-variants.{Scope, Iterator}
 use Rattle.queue_record.specs.declared.record.Queue.{Queue}
@@ -21,9 +21,8 @@ use Rattle.log_language.specs.Readings.{every}
 use Rattle.log_language.specs.Language.{Belongs}
 use Rattle.log_language.proofs.Core.{one-more-may}
 use Rattle.log_language.proofs.Lists.{snoc-ind, every-snoc}
-use Rattle.log_reader.specs.Reader.{openedAs}
-use Rattle.log_reader.proofs.Rightly.{iterator-open}
-use Rattle.history.specs.Histories.{Bench, bench, called, numberOf, Start, History, opens, calls, Made, none, one, openedQueue, opening}
+use Rattle.queue_record.proofs.Opened.{iterator-open}
+use Rattle.history.specs.Histories.{Bench, bench, called, numberOf, Start, History, opens, calls, Made, none, one, openedQueue, setting}
 use Rattle.history.specs.Fits.{isWord, fits, rowFits, LeftByFitting}
 use Rattle.history.proofs.Steps.{step}
 use Rattle.history.proofs.Spoken.{stands}
@@ -31,13 +30,13 @@ use Rattle.history.proofs.Demand.{More, row-more}
 use Rattle.history.proofs.Computed.{made-history}
 
 -- a history keeps the opening's domain
-opened-domain : (kind : Kind) (domain first : ℕ) (bindings : List ℕ) → openedAs kind domain first bindings .answer ≡ Opened.Open → openedAs kind domain first bindings .queue .domain ≡ domain
+opened-domain : (k : Kind) (domain first : ℕ) (bindings : List ℕ) → openedBy k domain first bindings .answer ≡ Opened.Open → openedBy k domain first bindings .queue .domain ≡ domain
 unfolding scopeOf iteratorOf
 opened-domain Scope domain first bindings e = refl
-opened-domain Iterator domain first bindings e = ap (λ (q : Queue). q .domain) (iterator-open domain first bindings [] e)
+opened-domain Iterator domain first bindings e = ap (λ (q : Queue). q .domain) (iterator-open domain first bindings e)
 
-history-domain : (s : Start) (b : Bench) → History s b → b .queue .domain ≡ s .domain
-history-domain s _ (opens e) = opened-domain (s .kind) (s .domain) (s .first) (s .bindings) e
+history-domain : (s : Start) (b : Bench) → History s b → b .queue .domain ≡ s .opening .heading .domain
+history-domain s _ (opens e) = opened-domain (s .opening .heading .kind) (s .opening .heading .domain) (s .opening .heading .first) (s .opening .bindings) e
 history-domain s _ (calls {b} h c a) =
     ⊎-elim (λ e. ap (λ (x : Bench). x .queue .domain) e) (λ w. ap (λ (x : Bench). x .queue .domain) (w .left)
     ∙ call-keeps-domain (b .queue) c) (step b (stands s b h .sound) c a) ∙ history-domain s b h
@@ -47,9 +46,9 @@ made-more : {a b : Bench} {cs : List Call} → Made a cs b → (c : Call) → nu
 made-more none c h = one h none
 made-more (one e m) c h = one e (made-more m c h)
 
-module _ (s : Start) (unrefused : openedAs (s .kind) (s .domain) (s .first) (s .bindings) .answer ≡ Opened.Open) (word : isWord (s .domain) ≡ true) where
+module _ (s : Start) (unrefused : openedAs (s .opening) .answer ≡ Opened.Open) (word : isWord (s .opening .heading .domain) ≡ true) where
   abbrev Spoken : List Row → Type 0
-  Spoken rs = every rowFits rs ≡ true → Belongs (opening s) rs → length rs * 5 ≤ length (s .memory) → LeftByFitting s rs
+  Spoken rs = every rowFits rs ≡ true → Belongs (setting s) rs → length rs * 5 ≤ length (s .memory) → LeftByFitting s rs
 
   first-of : Spoken []
   unfolding rows
@@ -59,7 +58,7 @@ module _ (s : Start) (unrefused : openedAs (s .kind) (s .domain) (s .first) (s .
   one-more rs r ih f b l =
       let n : length (rs ++ (r ∷ [])) ≡ length rs + 1 = length-append rs (r ∷ []) in
       let g = sym (every-snoc rowFits rs r) ∙ f in
-      let h : LeftByFitting s rs = ih (and-left (every rowFits rs) (rowFits r) g) (one-more-may (opening s) rs r .0 b .0) (omega arith) in
+      let h : LeftByFitting s rs = ih (and-left (every rowFits rs) (rowFits r) g) (one-more-may (setting s) rs r .0 b .0) (omega arith) in
       let k : History s (h .end) = made-history (opens unrefused) (h .made) in
       let m : More s unrefused (h .end) rs r = row-more s unrefused (h .end) k rs r (h .wrote) b l in
       let d : isWord (h .end .queue .domain) ≡ true = ap isWord (history-domain s (h .end) k) ∙ word in

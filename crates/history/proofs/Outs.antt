@@ -17,7 +17,7 @@ use Rattle.log_language.specs.Language.{Rule3, Rule4}
 use Rattle.log_language.proofs.RowSteps.{State}
 use Rattle.log_language.proofs.Pops.{outs, pops-out}
 use Rattle.log_replay.proofs.StateOf.{selectedOf}
-use Rattle.history.specs.Histories.{Bench, Start, History, rowsOf, opening, outOf}
+use Rattle.history.specs.Histories.{Bench, Start, History, rowsOf, setting, outOf}
 use Rattle.history.proofs.Spoken.{Stands, stands, history-belongs}
 
 -- ---- at most one undo is out
@@ -34,7 +34,7 @@ out-is (Of t) false false h = refl
 pub history-out : (s : Start) (b : Bench) → History s b → length (keep (is pop) (rowsOf b)) ≡ length (keep (is complete) (rowsOf b)) + outOf (b .queue)
 history-out s b h =
     let i : Stands s b = stands s b h in
-    let n = pops-out (opening s) (rowsOf b) (i .spoken) in
+    let n = pops-out (setting s) (rowsOf b) (i .spoken) in
     let o = out-is (b .queue .selection) (b .queue .failed) (b .queue .issued) (fit (b .queue) (i .sound) .marks) in
     let e = ap (λ (x : State). outs (x .selected)) (i .state) in
     omega arith

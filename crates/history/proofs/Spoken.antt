@@ -13,7 +13,7 @@ use Rattle.queue_record.specs.declared.record.Kind.{Kind}
 use Rattle.queue_record.specs.declared.record.Kind.the-variants.{Scope, Iterator}
 use Rattle.queue_record.specs.declared.record.Queue.{Queue}
 use Rattle.queue_record.specs.declared.openings.Opened.{Opened}
-use Rattle.queue_record.proofs.Opened.{scope-well-formed, scope-sized, opening-well-formed, opening-sized}
+use Rattle.queue_record.proofs.Opened.{opened-well-formed, opened-sized}
 use Rattle.cleanup_queue.specs.Runs.{Call, after}
 use Rattle.log_rows.specs.Rows.{rows, flat, written}
 use Rattle.log_rows.specs.declared.Row.{Row}
@@ -25,12 +25,13 @@ use Rattle.log_language.specs.Language.{Belongs}
 use Rattle.log_language.proofs.RowSteps.{State, opened, may, leave, endState}
 use Rattle.log_language.proofs.Core.{empty-belongs, one-more-may, end-snoc}
 use Rattle.log_replay.specs.Replay.{replayed}
-use Rattle.log_reader.specs.Reader.{endOf, openedAs}
+use Rattle.queue_record.specs.Openings.{openedAs}
+use Rattle.log_reader.specs.Reader.{endOf}
 use Rattle.log_replay.proofs.StateOf.{stateOf}
 use Rattle.log_replay.proofs.StageRows.{row-agrees}
 use Rattle.log_replay.proofs.RowsKeep.{row-keeps, row-sized}
 use Rattle.log_reader.proofs.Rightly.{opened-state}
-use Rattle.history.specs.Histories.{Bench, bench, Start, History, opens, calls, rowsOf, openedQueue, opening}
+use Rattle.history.specs.Histories.{Bench, bench, Start, History, opens, calls, rowsOf, openedQueue, setting}
 use Rattle.log_entries.proofs.NoteLaws.{Put}
 use Rattle.history.proofs.Steps.{Wrote, step}
 
@@ -47,32 +48,24 @@ pub record Stands (s : Start) (b : Bench) : Type 0 where
   pub sound : wellFormed (b .queue) ≡ true
   pub sized : Sized (b .queue)
   pub within : b .used * 5 ≤ length (b .log)
-  pub spoken : Belongs (opening s) (rowsOf b)
+  pub spoken : Belongs (setting s) (rowsOf b)
   pub counted : length (rowsOf b) ≡ b .used
   pub ended : b .queue ≡ endOf (openedQueue s) (rowsOf b)
-  pub state : stateOf (b .queue) ≡ endState (opened (opening s)) (rowsOf b)
+  pub state : stateOf (b .queue) ≡ endState (opened (setting s)) (rowsOf b)
   -- the memory behind the rows is as it was
   pub long : length (b .log) ≡ length (s .memory)
   pub behind : drop (b .used * 5) (b .log) ≡ drop (b .used * 5) (s .memory)
 
-opened-sound : (k : Kind) (d f : ℕ) (bs : List ℕ) → wellFormed (openedAs k d f bs .queue) ≡ true
-opened-sound Scope d f bs = scope-well-formed d f
-opened-sound Iterator d f bs = opening-well-formed d f bs
-
-opened-sized : (k : Kind) (d f : ℕ) (bs : List ℕ) → Sized (openedAs k d f bs .queue)
-opened-sized Scope d f bs = scope-sized d f
-opened-sized Iterator d f bs = opening-sized d f bs
-
-starts : (s : Start) → openedAs (s .kind) (s .domain) (s .first) (s .bindings) .answer ≡ Opened.Open → Stands s (bench (openedQueue s) 0 (s .memory))
+starts : (s : Start) → openedAs (s .opening) .answer ≡ Opened.Open → Stands s (bench (openedQueue s) 0 (s .memory))
 unfolding rows
 starts s e = record {
-  sound = opened-sound (s .kind) (s .domain) (s .first) (s .bindings);
-  sized = opened-sized (s .kind) (s .domain) (s .first) (s .bindings);
+  sound = opened-well-formed (s .opening);
+  sized = opened-sized (s .opening);
   within = omega arith;
-  spoken = empty-belongs (opening s);
+  spoken = empty-belongs (setting s);
   counted = refl;
   ended = refl;
-  state = opened-state (s .kind) (s .domain) (s .first) (s .bindings) e;
+  state = opened-state (s .opening) e;
   long = refl;
   behind = refl;
 }
@@ -102,12 +95,12 @@ module _ (s : Start) (b : Bench) (c : Call) (i : Stands s b) (w : Wrote b c) whe
       let k : length (rowsOf b) ≡ b .used = i .counted in
       let f : b .used * 5 + 5 ≤ length (b .log) = fits-in in
       let l : length (written (b .log) (b .used) (flat (w .row))) ≡ length (b .log) = long-is in
-      let m : may (endState (opened (opening s)) (rowsOf b)) (w .row) ≡ true = sym (ap (λ (x : State). may x (w .row)) (i .state)) ∙ (sym (a .fits) ∙ w .replays .fits) in
+      let m : may (endState (opened (setting s)) (rowsOf b)) (w .row) ≡ true = sym (ap (λ (x : State). may x (w .row)) (i .state)) ∙ (sym (a .fits) ∙ w .replays .fits) in
       record {
         sound = sym (ap wellFormed (w .replays .leaves)) ∙ row-keeps (b .queue) (i .sound) (w .row);
         sized = subst (λ (p : Queue). Sized p) (w .replays .leaves) (row-sized (b .queue) (i .sized) (w .row));
         within = omega arith;
-        spoken = rw rows-are (one-more-may (opening s) (rowsOf b) (w .row) .1 (i .spoken, omega arith, m));
+        spoken = rw rows-are (one-more-may (setting s) (rowsOf b) (w .row) .1 (i .spoken, omega arith, m));
         counted = ap length rows-are ∙ (length-append (rowsOf b) (w .row ∷ []) ∙ ap (λ (n : ℕ). n + 1) k);
         ended =
             sym (w .replays .leaves)
@@ -115,7 +108,7 @@ module _ (s : Start) (b : Bench) (c : Call) (i : Stands s b) (w : Wrote b c) whe
         state =
             sym (ap stateOf (w .replays .leaves))
             ∙ (a .leaves (w .replays .fits)
-            ∙ (ap (λ (x : State). leave x (w .row)) (i .state) ∙ (sym (end-snoc (opened (opening s)) (rowsOf b) (w .row)) ∙ ap (endState (opened (opening s))) (sym rows-are))));
+            ∙ (ap (λ (x : State). leave x (w .row)) (i .state) ∙ (sym (end-snoc (opened (setting s)) (rowsOf b) (w .row)) ∙ ap (endState (opened (setting s))) (sym rows-are))));
         long = l ∙ i .long;
         behind =
             words-behind (b .log) (b .used) (w .row) fits-in
@@ -130,7 +123,7 @@ stands s _ (calls {b} h c a) =
     (λ w. subst (λ (x : Bench). Stands s x) (sym (w .left)) (more s b c (stands s b h) w)) (step b (stands s b h .sound) c a)
 
 -- every log that a history leaves belongs to the language of its opening
-pub history-belongs : (s : Start) (b : Bench) → History s b → Belongs (opening s) (rowsOf b)
+pub history-belongs : (s : Start) (b : Bench) → History s b → Belongs (setting s) (rowsOf b)
 history-belongs s b h = stands s b h .spoken
 
 -- the record at the end of a history is the reader's end state for its log

@@ -11,17 +11,32 @@ use Rattle.queue_record.specs.declared.record.Kind.{Kind}
 use Rattle.queue_record.specs.declared.record.Kind.the-variants.{Scope, Iterator}
 use Rattle.queue_record.specs.declared.record.Selection.the-variants.{Free}
 use Rattle.queue_record.specs.declared.record.Queue.{Queue}
+use Rattle.queue_record.specs.declared.openings.Heading.{Heading}
 use Rattle.queue_record.specs.declared.openings.Opened.the-variants.{Open, Refused}
 use Rattle.queue_record.specs.declared.openings.OpenAnswer.{OpenAnswer}
 use Rattle.queue_record.specs.Refusals.{tooManyBindings}
+
+-- what a queue is opened as: kind, domain and first attempt, and an iterator's committed bindings
+pub record Opening : Type 0 where
+  pub heading : Heading
+  pub bindings : List ℕ
+
+abbrev pub openingOf : Heading → List ℕ → Opening
+openingOf heading bindings = record { heading = heading; bindings = bindings }
+
+abbrev pub headingOf : Kind → ℕ → ℕ → Heading
+headingOf kind domain first = record { kind = kind; domain = domain; first = first }
 
 -- the bindings as given, and 0 in the places behind them
 abbrev pub kept : List ℕ → List ℕ
 kept given = given ++ replicate (16 - length given) 0
 
 -- a queue without tokens: next starts at the first attempt
+abbrev pub started : Heading → Phase → List ℕ → ℕ → Queue
+started heading phase bindings bound = record { kind = heading .kind; domain = heading .domain; next = heading .first; slots = replicate 64 0; count = 0; selection = Free; failed = false; issued = false; phase = phase; bindings = bindings; bound = bound }
+
 abbrev pub opened : Kind → Phase → ℕ → ℕ → List ℕ → Queue
-opened kind phase domain first bindings = record { kind = kind; domain = domain; next = first; slots = replicate 64 0; count = 0; selection = Free; failed = false; issued = false; phase = phase; bindings = kept bindings; bound = length bindings }
+opened kind phase domain first bindings = started (headingOf kind domain first) phase (kept bindings) (length bindings)
 
 -- a scope starts Ended
 unfoldable pub scopeOf : ℕ → ℕ → Queue
@@ -35,8 +50,20 @@ iteratorOf domain first bindings = opened Iterator Idle domain first bindings
 unfoldable pub blank : Queue
 blank = scopeOf 0 0
 
+-- nothing refuses a scope
+abbrev pub scopeOpened : ℕ → ℕ → OpenAnswer
+scopeOpened domain first = record { answer = Open; queue = scopeOf domain first }
+
 -- more than 16 bindings: 14 and the blank queue
 unfoldable pub iteratorOpened : ℕ → ℕ → List ℕ → OpenAnswer
 iteratorOpened domain first bindings =
     if ltb 16 (length bindings) then record { answer = Refused tooManyBindings; queue = blank } else
     record { answer = Open; queue = iteratorOf domain first bindings }
+
+-- any opening; a scope looks at no bindings
+abbrev pub openedBy : Kind → ℕ → ℕ → List ℕ → OpenAnswer
+openedBy Scope domain first bindings = scopeOpened domain first
+openedBy Iterator domain first bindings = iteratorOpened domain first bindings
+
+abbrev pub openedAs : Opening → OpenAnswer
+openedAs o = openedBy (o .heading .kind) (o .heading .domain) (o .heading .first) (o .bindings)

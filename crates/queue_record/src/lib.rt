@@ -2,6 +2,7 @@
 // the search for the newest waiting token, how many wait, and the record with another kind, selection or phase.
 mod blanks;
 mod check;
+mod limits;
 mod openings;
 mod record;
 pub mod refusal;
@@ -15,9 +16,14 @@ pub use check::slot_fits;
 pub use check::ticket_fits;
 pub use check::well_formed;
 pub use check::zeros_from;
+pub use limits::BINDINGS;
+pub use limits::TOKENS;
+pub use openings::Heading;
 pub use openings::OpenAnswer;
 pub use openings::Opened;
+pub use openings::blank;
 pub use openings::iterator;
+pub use openings::open_as;
 pub use openings::scope;
 pub use record::Kind;
 pub use record::Queue;

@@ -1,4 +1,5 @@
 // The openings: a scope, and an iterator with its committed bindings.
+use crate::limits::BINDINGS;
 use crate::record::Kind;
 use crate::record::Queue;
 use crate::record::Selection;
@@ -7,7 +8,14 @@ use stage::Phase;
 ghost use mathlib.Core.Path.{_≡_};
 ghost use Prim.Native.Nat.{_≤_};
 ghost use lib.ListN.{length};
-ghost use Rattle.queue_record.specs.Openings.{kept, scopeOf, iteratorOpened};
+ghost use Rattle.queue_record.specs.Openings.{kept, started, blank, openingOf, scopeOpened, iteratorOpened, openedAs};
+
+// What a queue is opened as. A struct that lends a slice would want its proofs by hand, so an iterator's bindings go beside it.
+pub struct Heading {
+    pub kind: Kind,
+    pub domain: u64,
+    pub first: u64,
+}
 
 pub enum Opened {
     Open,
@@ -34,21 +42,50 @@ fn places_of(given: &[u64]) -> [u64; 16]
 }
 
 // A queue in which nothing has happened yet.
-pub fn scope(domain: u64, first: u64) -> Queue
-    ensures { λ r. ⌜ r ≡ scopeOf domain first ⌝ }
+fn started(heading: Heading, phase: Phase, bindings: [u64; 16], bound: u64) -> Queue
+    ensures { λ r. ⌜ r ≡ started heading phase bindings bound ⌝ }
 {
+    let kind = heading.kind;
     Queue {
-        kind: Kind::Scope,
-        domain: domain,
-        next: first,
+        kind: kind,
+        domain: heading.domain,
+        next: heading.first,
         slots: [0u64; 64],
         count: 0,
         selection: Selection::Free,
         failed: false,
         issued: false,
-        phase: Phase::Ended,
-        bindings: [0u64; 16],
-        bound: 0,
+        phase: phase,
+        bindings: bindings,
+        bound: bound,
+    }
+}
+
+// What a refused opening leaves.
+pub fn blank() -> Queue
+    ensures { λ r. ⌜ r ≡ blank ⌝ }
+{
+    let heading = Heading {
+        kind: Kind::Scope,
+        domain: 0,
+        first: 0,
+    };
+    started(heading, Phase::Ended, [0u64; 16], 0)
+}
+
+// Nothing refuses a scope yet; its answer is every opening's.
+pub fn scope(domain: u64, first: u64) -> OpenAnswer
+    ensures { λ r. ⌜ r ≡ scopeOpened domain first ⌝ }
+{
+    let heading = Heading {
+        kind: Kind::Scope,
+        domain: domain,
+        first: first,
+    };
+    let queue = started(heading, Phase::Ended, [0u64; 16], 0);
+    OpenAnswer {
+        answer: Opened::Open,
+        queue: queue,
     }
 }
 
@@ -56,30 +93,34 @@ pub fn scope(domain: u64, first: u64) -> Queue
 pub fn iterator(domain: u64, first: u64, bindings: &[u64]) -> OpenAnswer
     ensures { λ r. ⌜ r ≡ iteratorOpened domain first (now (bindings .entry)) ⌝ }
 {
-    let bound = bindings.len();
-    if 16 < bound {
-        let blank = scope(0, 0);
+    let bound = bindings.len() as u64;
+    if BINDINGS < bound {
+        let none = blank();
         return OpenAnswer {
             answer: Opened::Refused(TOO_MANY_BINDINGS),
-            queue: blank,
+            queue: none,
         };
     }
     let places = places_of(bindings);
-    let queue = Queue {
+    let heading = Heading {
         kind: Kind::Iterator,
         domain: domain,
-        next: first,
-        slots: [0u64; 64],
-        count: 0,
-        selection: Selection::Free,
-        failed: false,
-        issued: false,
-        phase: Phase::Idle,
-        bindings: places,
-        bound: bound as u64,
+        first: first,
     };
+    let queue = started(heading, Phase::Idle, places, bound);
     OpenAnswer {
         answer: Opened::Open,
         queue: queue,
+    }
+}
+
+// Either, as the heading says; a scope's bindings are not looked at.
+pub fn open_as(heading: Heading, bindings: &[u64]) -> OpenAnswer
+    ensures { λ r. ⌜ r ≡ openedAs (openingOf heading (now (bindings .entry))) ⌝ }
+{
+    let kind = heading.kind;
+    match kind {
+        Kind::Scope => scope(heading.domain, heading.first),
+        Kind::Iterator => iterator(heading.domain, heading.first, bindings),
     }
 }

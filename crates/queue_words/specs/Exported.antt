@@ -1,11 +1,13 @@
 -- What the exported calls do to a queue's words: each is the public call on the record that they encode
 use Prim.Native.Nat.{ℕ}
+use mathlib.Core.Path.{_≡_}
 use mathlib.Core.Bool.{Bool, not, false}
 use mathlib.Core.List.{List, [], _∷_}
 use Rattle.choice.specs.Choice.{if_then_else_}
 use Rattle.queue_record.specs.Refusals.{done, broken}
 use Rattle.queue_record.specs.declared.openings.Opened.{Opened}
 use Rattle.queue_record.specs.declared.openings.Opened.the-variants.{Open}
+use Rattle.queue_record.specs.declared.openings.OpenAnswer.{OpenAnswer}
 use Rattle.queue_births.specs.Births.{registered, landed}
 use Rattle.queue_steps.specs.Attempts.{popped, completed, retried}
 use Rattle.queue_births.specs.declared.births.Registered.{Registered}
@@ -57,6 +59,11 @@ onRecord ws given answered = if not (encodes ws) then refusedOn broken given ws 
 abbrev pub openNumber : Opened → ℕ
 openNumber Open = done
 openNumber (Opened.Refused refusal) = refusal
+
+-- an opening's number, and the words of the queue that it leaves
+pub record OpensOn (x : OpenAnswer) (result : ℕ) (words : List ℕ) : Type 0 where
+  pub number : result ≡ openNumber (x .answer)
+  pub left : words ≡ wordsOf (x .queue)
 
 -- ---- register, land
 abbrev pub bornSaid : Registered → List ℕ → Exported

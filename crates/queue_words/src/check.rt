@@ -73,11 +73,11 @@ fn places_fit(w: &Words) -> bool
     ensures { λ r. ⌜ r ≡ placesFit (queueOf (now (w .entry))) ⌝ }
 {
     let count = w[COUNT];
-    if 64 < count {
+    if queue_record::TOKENS < count {
         return false;
     }
     let bound = w[BOUND];
-    if 16 < bound {
+    if queue_record::BINDINGS < bound {
         return false;
     }
     let words = &w[..];

@@ -7,6 +7,7 @@ mod search;
 mod steps;
 
 pub use check::sound;
+pub use decoding::kind_at;
 pub use decoding::selection_in;
 pub use decoding::ticket_at;
 pub use questions::finish_allowed;
@@ -16,6 +17,7 @@ pub use questions::target_matches;
 pub use search::sought_in;
 pub use steps::deselect;
 pub use steps::move_stage;
+pub use steps::put_blank;
 pub use steps::put_iterator;
 pub use steps::put_phase;
 pub use steps::put_run;

@@ -7,7 +7,7 @@ ghost use mathlib.Core.Bool.{true};
 ghost use Prim.Native.Nat.{_+_, _≤_};
 ghost use lib.ListN.{length};
 ghost use Rattle.queue_record.specs.Record.{withPhase};
-ghost use Rattle.queue_record.specs.Openings.{scopeOf};
+ghost use Rattle.queue_record.specs.Openings.{scopeOf, blank};
 ghost use Rattle.queue_record.specs.declared.record.Selection.the-variants.{Free, Of};
 ghost use Rattle.queue_words.specs.Layout.{wordCount};
 ghost use Rattle.queue_words.specs.Words.{queueOf, wordsOf, isSound};
@@ -67,6 +67,13 @@ pub fn put_scope(queue: &mut Words, domain: u64, first: u64)
     queue[DOMAIN] = domain;
     queue[NEXT] = first;
     queue[PHASE] = 2;
+}
+
+// What a refused opening leaves.
+pub fn put_blank(queue: &mut Words)
+    ensures { λ _. ⌜ now (queue .exit) ≡ wordsOf blank ⌝ }
+{
+    put_scope(queue, 0, 0);
 }
 
 // An iterator's words but for its bindings: Idle is 0.

@@ -3,6 +3,5 @@ mod opening;
 mod textread;
 mod textrows;
 
-pub use opening::Opening;
 pub use textread::TextRead;
 pub use textread::read_text;

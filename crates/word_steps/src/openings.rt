@@ -1,24 +1,42 @@
-// The opening of an iterator: every word is written.
+// The openings on words: every word is written.
+use queue_record::Heading;
+use queue_record::Kind;
 use queue_record::refusal::TOO_MANY_BINDINGS;
 use queue_words::layout::*;
+use queue_words::put_blank;
 use queue_words::put_iterator;
 use queue_words::put_run;
 use queue_words::put_scope;
 ghost use mathlib.Core.Path.{_≡_};
-ghost use Rattle.queue_record.specs.Openings.{iteratorOpened};
-ghost use Rattle.queue_words.specs.Words.{wordsOf};
-ghost use Rattle.queue_words.specs.Exported.{openNumber};
+ghost use Rattle.queue_record.specs.Openings.{openingOf, scopeOpened, iteratorOpened, openedAs};
+ghost use Rattle.queue_words.specs.Exported.{OpensOn};
 
-// With more than 16 bindings the blank queue.
-pub fn open_iterator(queue: &mut Words, domain: u64, first: u64, bindings: &[u64]) -> u64
-    ensures { λ r. ⌜ (r ≡ openNumber (iteratorOpened domain first (now (bindings .entry)) .answer)) × (now (queue .exit) ≡ wordsOf (iteratorOpened domain first (now (bindings .entry)) .queue)) ⌝ }
+pub fn open_scope(queue: &mut Words, domain: u64, first: u64) -> u64
+    ensures { λ r. ⌜ OpensOn (scopeOpened domain first) r (now (queue .exit)) ⌝ }
 {
-    let bound = bindings.len();
-    if 16 < bound {
-        put_scope(queue, 0, 0);
+    put_scope(queue, domain, first);
+    0
+}
+
+pub fn open_iterator(queue: &mut Words, domain: u64, first: u64, bindings: &[u64]) -> u64
+    ensures { λ r. ⌜ OpensOn (iteratorOpened domain first (now (bindings .entry))) r (now (queue .exit)) ⌝ }
+{
+    let bound = bindings.len() as u64;
+    if queue_record::BINDINGS < bound {
+        put_blank(queue);
         return TOO_MANY_BINDINGS;
     }
-    put_iterator(queue, domain, first, bound as u64);
+    put_iterator(queue, domain, first, bound);
     put_run(queue, BINDINGS, bindings);
     0
+}
+
+pub fn open_in(queue: &mut Words, heading: Heading, bindings: &[u64]) -> u64
+    ensures { λ r. ⌜ OpensOn (openedAs (openingOf heading (now (bindings .entry)))) r (now (queue .exit)) ⌝ }
+{
+    let kind = heading.kind;
+    match kind {
+        Kind::Scope => open_scope(queue, heading.domain, heading.first),
+        Kind::Iterator => open_iterator(queue, heading.domain, heading.first, bindings),
+    }
 }

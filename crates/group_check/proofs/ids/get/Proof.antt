@@ -5,7 +5,6 @@ use lib.ListN.{length, length-map}
 use Rattle.group_check.specs.Ids.{spotOf, gotAt, got}
 use Rattle.group_check.specs.declared.ids.Spot.{Spot}
 use Rattle.group_check.proofs.Spots.{spot-below}
-use Rattle.queue_record.specs.Openings.{blank}
 use Rattle.queue_record.specs.declared.record.Queue.{Queue}
 use Rattle.group_check.specs.declared.ids.Got.{Got}
 use Rattle.group_check.specs.declared.ids.GetAnswer.{GetAnswer}
@@ -34,7 +33,7 @@ abbrev answered : Got → Queue → GetAnswer
 answered a q = record { answer = a; queue = q }
 
 pub get-spec : {M : Type 1} → statement M
-unfolding got blank
+unfolding got
 get-spec =
     tie.close
     (tie.spec
@@ -44,6 +43,6 @@ get-spec =
     (λ c. search needs)
     (λ c κs. in-place (c .before))
     (λ c.
-    ap (answered _) (c .scope .ensures)
+    ap (answered _) (c .blank .ensures)
     ∙ sym (ap (gotAt (askedRefused (c .before .before) .args .g)) (sym (c .before .before .before .before .look-up .ensures) ∙ (c .before .before .spot .given .1))))
     (λ c. ap (answered _) (c .queue-at .ensures) ∙ sym (ap (gotAt (asked (c .before .before) .args .g)) (found (c .before .before)))))

@@ -1,7 +1,8 @@
--- Refused, or a scope is put in
+-- Refused with 1 or 12, or as the opening of a scope goes
 use mathlib.Core.Path.{_≡_, sym, ap, _∙_}
-use Rattle.queue_record.specs.declared.record.Queue.{Queue}
-use Rattle.group_lives.specs.Openings.{unsealed, added, addedScopeBy, addedScope}
+use Rattle.queue_record.specs.Openings.{scopeOpened}
+use Rattle.queue_record.specs.declared.openings.OpenAnswer.{OpenAnswer}
+use Rattle.group_lives.specs.Openings.{unsealed, nextDomain, addedQueue, addedOpening, addedScope}
 use Rattle.group_lives.proofs.Room.{domain-fits}
 use native.Mathlib.Omega.{arith}
 use Rattle.queue_record.specs.declared.openings.Opened.the-variants.{Open}
@@ -15,11 +16,14 @@ abbrev askedRefused : tie.After-gate → tie.Start
 askedRefused c = c .before .before .before
 
 -- behind the gate: the groups that are asked, which are open
-abbrev asked : tie.After-enum-told → Groups
-asked c = c .before .before .before .args .g
+abbrev start : tie.After-enum-told → tie.Start
+start c = c .before .before .before
 
-opened : (c : tie.After-enum-told) → unsealed (asked c) ≡ Open
-opened c = sym (c .before .before .is-unsealed .ensures) ∙ (c .enum-told .given .1)
+abbrev asked : tie.After-enum-told → Groups
+asked c = start c .args .g
+
+unrefused : (c : tie.After-enum-told) → unsealed (asked c) ≡ Open
+unrefused c = sym (c .before .before .is-unsealed .ensures) ∙ (c .enum-told .given .1)
 
 abbrev toGate : tie.After-scope → tie.After-enum-told
 toGate c = c .before .before
@@ -33,13 +37,13 @@ add-scope-spec =
     (λ c. search needs)
     (λ c κs. search needs)
     (λ c. search needs)
-    (λ c. omega (arith, domain-fits (asked (c .before)) (opened (c .before))))
+    (λ c. omega (arith, domain-fits (asked (c .before)) (unrefused (c .before))))
     (λ c κs. search needs)
     (λ c κs. search needs)
     (λ c.
-    (c .add-refused .ensures)
-    ∙ sym (ap (addedScopeBy (askedRefused (c .before .before) .args .g))
-    (sym (c .before .before .before .before .is-unsealed .ensures) ∙ (c .before .before .gate .given .1))))
+    let a = askedRefused (c .before .before) .args in
+    (c .add-refused .ensures) ∙ sym (ap (addedOpening (a .g) (scopeOpened (nextDomain (a .g)) 0)) (sym (c .before .before .before .before .is-unsealed .ensures) ∙ (c .before .before .gate .given .1))))
     (λ c.
-    (c .add .ensures) ∙ (ap (λ (q : Queue). added (asked (toGate (c .before))) q) (c .before .scope .ensures)
-    ∙ sym (ap (addedScopeBy (asked (toGate (c .before)))) (opened (toGate (c .before)))))))
+    let at = toGate (c .before) in
+    (c .add-opened .ensures) ∙ (ap (λ (x : OpenAnswer). addedQueue (asked at) (x .queue) (x .answer)) (c .before .scope .ensures)
+    ∙ sym (ap (addedOpening (asked at) _) (unrefused at)))))

@@ -2,7 +2,7 @@
 use mathlib.Core.Path.{sym, ap, _∙_}
 use borrow.Author.Tests.{lt-ltb, le-ltb}
 use Rattle.choice.proofs.Ways.{hit, miss}
-use Rattle.queue_record.specs.declared.record.Queue.{Queue}
+use Rattle.queue_record.specs.declared.openings.OpenAnswer.{OpenAnswer}
 use Rattle.queue_record.specs.declared.openings.Opened.{Opened}
 use Rattle.group_record.specs.Record.{emptyOf, opening}
 use Rattle.group_record.specs.declared.record.Groups.{Groups}
@@ -17,6 +17,10 @@ use Rattle.group_lives.proofs.openings.new.Tie as tie
 abbrev answered : Opened → Groups → NewAnswer
 answered a g = record { answer = a; groups = g }
 
+-- behind the opening of the root: what is asked
+abbrev asked : tie.After-scope → tie.Start
+asked c = c .before .before
+
 pub new-spec : {M : Type 1} → statement M
 unfolding newOf
 new-spec =
@@ -29,6 +33,6 @@ new-spec =
     (λ c κs. (omega arith, none-yet _ _ (c .empty2 .ensures)))
     (λ c.
     ap (answered _) ((c .put-new .ensures)
-    ∙ (ap (λ (h : Groups). opening h 0 (c .before .before .scope .result)) (c .before .empty2 .ensures)
-    ∙ ap (λ (q : Queue). opening (emptyOf (c .before .before .before .before .args .base)) 0 q) (c .before .before .scope .ensures)))
-    ∙ sym (miss _ (le-ltb _ _ (c .before .before .before .if1 .left)))))
+    ∙ (ap (λ (h : Groups). opening h 0 (c .before .before .before .scope .result .queue)) (c .before .empty2 .ensures)
+    ∙ ap (λ (x : OpenAnswer). opening (emptyOf (asked (c .before .before .before) .args .base)) 0 (x .queue)) (c .before .before .before .scope .ensures)))
+    ∙ sym (miss _ (le-ltb _ _ (c .before .before .before .before .if1 .left)))))

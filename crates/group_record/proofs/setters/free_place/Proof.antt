@@ -1,7 +1,6 @@
 -- The blank queue, not live
 use mathlib.Core.Path.{ap}
 use mathlib.Core.Bool.{false}
-use Rattle.queue_record.specs.Openings.{blank}
 use Rattle.queue_record.specs.declared.record.Queue.{Queue}
 use Rattle.group_record.specs.declared.record.Place.{Place}
 use borrow.Author.Needs.{needs}
@@ -12,9 +11,8 @@ abbrev as-free : Queue → Place
 as-free q = record { id = 0; live = false; queue = q }
 
 pub free-place-spec : {M : Type 1} → statement M
-unfolding blank
 free-place-spec =
     tie.close
     (tie.spec
     (λ c κs. search needs)
-    (λ c. ap (λ (q : Queue). as-free q) (c .scope .ensures)))
+    (λ c. ap (λ (q : Queue). as-free q) (c .blank .ensures)))

@@ -6,7 +6,7 @@ use lib.ListN.{length}
 use native.Mathlib.Omega.{arith}
 use borrow.Author.Tests.{lt-ltb, le-ltb}
 use Rattle.choice.proofs.Ways.{hit, miss}
-use Rattle.queue_record.specs.Openings.{blank, iteratorOpened}
+use Rattle.queue_record.specs.Openings.{iteratorOpened}
 use Rattle.queue_record.specs.declared.openings.OpenAnswer.{OpenAnswer}
 use Rattle.queue_words.specs.Layout.{atBindings}
 use Rattle.queue_words.specs.Words.{wordsOf}
@@ -32,13 +32,22 @@ stored : (c : tie.Else1) → runPut (iteratorIn (c .before .before .args .domain
 unfolding iteratorOpened
 stored c = iterator-words (c .before .before .args .domain) (c .before .before .args .first) (given c) (c .if1 .left) ∙ sym (ap (λ (r : OpenAnswer). wordsOf (r .queue)) (miss _ (le-ltb _ _ (c .if1 .left))))
 
+abbrev toElse : tie.After-put-run → tie.Else1
+toElse c = c .before .before .before .before
+
 pub open-iterator-spec : {M : Type 1} → statement M
-unfolding iteratorOpened blank
+unfolding iteratorOpened
 open-iterator-spec =
     tie.close
     (tie.spec
     (λ c κs. search needs)
-    (λ c. (sym (ap (λ (r : OpenAnswer). openNumber (r .answer)) (hit _ (lt-ltb _ _ (c .before .before .if1 .taken)))), (c .put-scope .ensures) ∙ sym (ap (λ (r : OpenAnswer). wordsOf (r .queue)) (hit _ (lt-ltb _ _ (c .before .before .if1 .taken))))))
+    (λ c. record {
+      number = sym (ap (λ (r : OpenAnswer). openNumber (r .answer)) (hit _ (lt-ltb _ _ (c .before .before .if1 .taken))));
+      left = (c .put-blank .ensures) ∙ sym (ap (λ (r : OpenAnswer). wordsOf (r .queue)) (hit _ (lt-ltb _ _ (c .before .before .if1 .taken))));
+    })
     (λ c κs. search needs)
     (λ c κs. (ap length (c .before .put-iterator .ensures), omega (arith, (c .before .before .before .if1 .left))))
-    (λ c. (sym (no-refusal (c .before .before .before .before)), (c .put-run .ensures) ∙ (ap (λ (l : List ℕ). runPut l atBindings (given (c .before .before .before .before))) (c .before .before .put-iterator .ensures) ∙ stored (c .before .before .before .before)))))
+    (λ c. record {
+      number = sym (no-refusal (toElse c));
+      left = (c .put-run .ensures) ∙ (ap (λ (l : List ℕ). runPut l atBindings (given (toElse c))) (c .before .before .put-iterator .ensures) ∙ stored (toElse c));
+    }))
