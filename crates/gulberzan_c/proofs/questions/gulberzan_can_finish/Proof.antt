@@ -34,10 +34,12 @@ gulberzan-can-finish-spec =
     (λ c κs. search needs)
     (λ c.
     let s = toStart (c .before .before) in
-    sym (told-unsound _ (asks (s .args .queue .now) (s .args .target .now)) (sym (c .before .before .sound .ensures) ∙ not-true _ (c .before .if1 .taken))))
+    sym (told-unsound _ (asks (s .args .queue .now) (s .args .target .now))
+    (sym (c .before .before .sound .ensures) ∙ not-true _ (c .before .if1 .taken))))
     (λ c κs. few-bindings _ (sure c))
     (λ c κs. search needs)
     (λ c.
     let at = c .before .before .before in
     let s = toStart (at .before) in
-    rw ((c .before .yes-word .ensures), (c .before .before .finish-allowed .ensures)) (sym (told-sound _ (asks (s .args .queue .now) (s .args .target .now)) (sure at)))))
+    rw ((c .before .yes-word .ensures), (c .before .before .finish-allowed .ensures))
+    (sym (told-sound _ (asks (s .args .queue .now) (s .args .target .now)) (sure at)))))

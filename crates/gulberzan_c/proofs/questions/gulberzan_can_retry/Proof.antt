@@ -38,4 +38,5 @@ gulberzan-can-retry-spec =
     (λ c.
     let at = c .before .before .before in
     let s = toStart (at .before) in
-    rw ((c .before .yes-word .ensures), (c .before .before .retry-allowed .ensures)) (sym (told-sound _ (asks (s .args .queue .now)) (sure at)))))
+    rw ((c .before .yes-word .ensures), (c .before .before .retry-allowed .ensures))
+    (sym (told-sound _ (asks (s .args .queue .now)) (sure at)))))

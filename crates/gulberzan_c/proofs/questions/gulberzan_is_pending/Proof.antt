@@ -44,4 +44,5 @@ gulberzan-is-pending-spec =
     (λ c.
     let at = toCheck (c .before .before .before) in
     let s = toStart (at .before) in
-    rw ((c .before .yes-word .ensures), (c .before .before .pending .ensures), (c .before .before .before .phase-at .ensures)) (sym (told-sound _ (asks (s .args .queue .now)) (sure at)))))
+    rw ((c .before .yes-word .ensures), (c .before .before .pending .ensures), (c .before .before .before .phase-at .ensures))
+    (sym (told-sound _ (asks (s .args .queue .now)) (sure at)))))

@@ -36,4 +36,5 @@ admit-in-spec =
     let ws = asked at .args .queue .now in
     (c .move-stage .ensures)
     ∙ (ap (λ (p : Phase). saidIn (wordsOf (withPhase (queueOf ws) p)) (c .before .before .pending .result)) (moved at)
-    ∙ (ap (saidIn _) ((c .before .before .pending .ensures) ∙ ap isPending (moved at)) ∙ sym (admit-by-moved ws (asked at .pre) (asked at .args .matched))))))
+    ∙ (ap (saidIn _) ((c .before .before .pending .ensures) ∙ ap isPending (moved at))
+    ∙ sym (admit-by-moved ws (asked at .pre) (asked at .args .matched))))))

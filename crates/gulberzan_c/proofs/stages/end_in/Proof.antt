@@ -36,4 +36,5 @@ end-in-spec =
     let ws = asked at .args .queue .now in
     (c .move-stage .ensures)
     ∙ (ap (λ (p : Phase). saidIn (wordsOf (withPhase (queueOf ws) p)) (c .before .before .pending .result)) (moved at)
-    ∙ (ap (saidIn _) ((c .before .before .pending .ensures) ∙ ap isPending (at .before .phase-at .ensures)) ∙ sym (end-moved ws (asked at .pre))))))
+    ∙ (ap (saidIn _) ((c .before .before .pending .ensures) ∙ ap isPending (at .before .phase-at .ensures))
+    ∙ sym (end-moved ws (asked at .pre))))))

@@ -31,7 +31,8 @@ gulberzan-admit-spec =
     tie.close
     (tie.spec
     (λ c κs. search needs)
-    (λ c. sym (admit-unsound _ (sym (c .before .before .sound .ensures) ∙ not-true _ (c .before .if1 .taken)) (toStart (c .before .before) .args .target .now)))
+    (λ c. sym (admit-unsound _ (sym (c .before .before .sound .ensures) ∙ not-true _ (c .before .if1 .taken))
+    (toStart (c .before .before) .args .target .now)))
     (λ c κs. few-bindings (asked (c .before)) (sure (c .before)))
     (λ c κs. sure (toCheck (c .before .before)))
     (λ c. let at = c .before .before .before in (c .admit-in .ensures) ∙ ap (admitBy (asked (toCheck at))) (at .target-matches .ensures)))

@@ -24,6 +24,6 @@ gulberzan-admit-without-spec =
     tie.close
     (tie.spec
     (λ c κs. search needs)
-    (λ c. sym (admit-without-unsound (c .before .before .before .before .args .queue .now) (sym (c .before .before .sound .ensures) ∙ not-true _ (c .before .if1 .taken))))
+    (λ c. sym (admit-without-unsound _ (sym (c .before .before .sound .ensures) ∙ not-true _ (c .before .if1 .taken))))
     (λ c κs. sure (c .before .before))
     (λ c. (c .admit-in .ensures)))

@@ -22,6 +22,6 @@ gulberzan-cancel-spec =
     tie.close
     (tie.spec
     (λ c κs. search needs)
-    (λ c. sym (cancel-unsound (c .before .before .before .before .args .queue .now) (sym (c .before .before .sound .ensures) ∙ not-true _ (c .before .if1 .taken))))
+    (λ c. sym (cancel-unsound _ (sym (c .before .before .sound .ensures) ∙ not-true _ (c .before .if1 .taken))))
     (λ c κs. sure (c .before .before))
     (λ c. (c .cancel-in .ensures)))
