@@ -1,6 +1,5 @@
 -- The stage moved
 use mathlib.Core.Path.{_≡_, sym, ap, _∙_}
-use mathlib.Core.Bool.{Bool, false}
 use Rattle.stage.specs.declared.phases.Phase.{Phase}
 use Rattle.queue_record.specs.Record.{withPhase}
 use Rattle.queue_words.specs.Words.{queueOf, wordsOf}

@@ -1,10 +1,10 @@
 -- Refused, or the stage moved as the target says
 use Prim.Native.Nat.{ℕ}
 use mathlib.Core.Path.{_≡_, sym, ap, _∙_}
-use mathlib.Core.Bool.{true, false}
+use mathlib.Core.Bool.{true}
 use mathlib.Core.List.{List}
 use borrow.Author.Tests.{not-true, not-false}
-use Rattle.queue_words.specs.Words.{queueOf, isSound}
+use Rattle.queue_words.specs.Words.{isSound}
 use Rattle.queue_words.specs.Exported.{admitBy, admitOn}
 use Rattle.queue_words.proofs.OnWords.{few-bindings}
 use Rattle.queue_words.proofs.StageWords.{admit-unsound}
