@@ -27,7 +27,8 @@ use Rattle.queue_decisions.specs.declared.pops.Due.{Due}
 use Rattle.queue_decisions.specs.declared.renewals.Renewal.{Renewal}
 use Rattle.queue_decisions.specs.Slots.{noMore}
 use Rattle.queue_decisions.specs.Answers.{isOut, keepsOnDone, completeRefusal}
-use Rattle.queue_steps.specs.Attempts.{slot, refusedPop, nothing, handed, freshTicket, poppedAs, popped, refusedComplete, answered, completedBy, completed, refusedRetry, retryAllowed, renewed, again, retriedAs, retried}
+use Rattle.queue_steps.specs.Attempts.{slot, refusedPop, nothing, handed, freshTicket, poppedAs, popped, refusedComplete, answered, completedBy}
+use Rattle.queue_steps.specs.Attempts.{completed, refusedRetry, retryAllowed, renewed, again, retriedAs, retried}
 use Rattle.queue_births.specs.declared.births.RegisterAnswer.{RegisterAnswer}
 use Rattle.queue_steps.specs.declared.attempts.Popped.the-variants.{Work}
 use Rattle.queue_steps.specs.declared.attempts.PopAnswer.{PopAnswer}

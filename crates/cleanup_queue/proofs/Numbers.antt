@@ -21,16 +21,19 @@ use Rattle.queue_steps.specs.declared.attempts.Completed.{Completed}
 use Rattle.queue_steps.specs.declared.attempts.CompleteAnswer.{CompleteAnswer}
 use Rattle.queue_steps.specs.declared.attempts.Retried.{Retried}
 use Rattle.queue_steps.specs.declared.attempts.RetryAnswer.{RetryAnswer}
-use Rattle.queue_questions.specs.Questions.{yesOrNo, asked, committed, nothingLeft, finishable, isEmptyTold, isIssuedTold, isPendingTold, isSettledTold, isCancelledTold, hasFailedTold, canRetryTold, canFinishTold, domainTold}
+use Rattle.queue_questions.specs.Questions.{yesOrNo, asked, committed, nothingLeft, finishable, isEmptyTold, isIssuedTold, isPendingTold}
+use Rattle.queue_questions.specs.Questions.{isSettledTold, isCancelledTold, hasFailedTold, canRetryTold, canFinishTold, domainTold}
 use Rattle.queue_questions.specs.declared.questions.Told.{Told}
 use Rattle.queue_stages.specs.Stages.{afterAdmit, admitted, ended, cancelledBy}
 use Rattle.queue_stages.specs.declared.stages.StageAnswer.{StageAnswer}
 use Rattle.queue_stages.specs.declared.stages.CancelAnswer.{CancelAnswer}
 use Rattle.queue_stages.specs.declared.stages.Cancelled.{Cancelled}
 use Rattle.cleanup_queue.specs.Answers.{Said, openedSays, registeredSays, poppedSays, completedSays, retriedSays, toldSays, cancelledSays, domainSays}
-use Rattle.cleanup_queue.specs.Orders.{Due, firstDue, firstSaid, openingOrder, registerOrder, landOrder, popOrder, workValues, completeOrder, retryOrder, renewedValues, brokenOnly, bit, OnlyBroken}
+use Rattle.cleanup_queue.specs.Orders.{Due, firstDue, firstSaid, openingOrder, registerOrder, landOrder, popOrder, workValues, completeOrder}
+use Rattle.cleanup_queue.specs.Orders.{retryOrder, renewedValues, brokenOnly, bit, OnlyBroken}
 use Rattle.cleanup_queue.proofs.ByCase.{register-by, land-by, pop-by, complete-by, retry-by}
-use Rattle.cleanup_queue.proofs.Said.{opening-said, register-said, land-said, pop-said, complete-said, retry-said, told-said, asked-said, admit-said, end-said, cancel-said, domain-said, never-refused}
+use Rattle.cleanup_queue.proofs.Said.{opening-said, register-said, land-said, pop-said, complete-said, retry-said, told-said, asked-said}
+use Rattle.cleanup_queue.proofs.Said.{admit-said, end-said, cancel-said, domain-said, never-refused}
 pub use Rattle.cleanup_queue.proofs.Said.{due-if}
 
 -- the number of what is said is the first that is due
@@ -72,7 +75,8 @@ module _ (q : Queue) where
 
   -- each of the eight questions refuses with 1 alone
   pub questions-number : (target : List ℕ)
-      → OnlyBroken q (isEmptyTold q) × OnlyBroken q (isIssuedTold q) × OnlyBroken q (isPendingTold q) × OnlyBroken q (isSettledTold q) × OnlyBroken q (isCancelledTold q) × OnlyBroken q (hasFailedTold q) × OnlyBroken q (canRetryTold q) × OnlyBroken q (canFinishTold q target)
+      → OnlyBroken q (isEmptyTold q) × OnlyBroken q (isIssuedTold q) × OnlyBroken q (isPendingTold q) × OnlyBroken q (isSettledTold q)
+      × OnlyBroken q (isCancelledTold q) × OnlyBroken q (hasFailedTold q) × OnlyBroken q (canRetryTold q) × OnlyBroken q (canFinishTold q target)
   unfolding isEmptyTold isIssuedTold isPendingTold isSettledTold isCancelledTold hasFailedTold canRetryTold canFinishTold
   questions-number target = (
     asked-number (nothingLeft (q .selection) (waiting q)),

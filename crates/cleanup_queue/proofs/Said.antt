@@ -39,7 +39,8 @@ use Rattle.queue_steps.specs.declared.attempts.Completed.{Completed}
 use Rattle.queue_steps.specs.declared.attempts.CompleteAnswer.{CompleteAnswer}
 use Rattle.queue_steps.specs.declared.attempts.Retried.{Retried}
 use Rattle.queue_steps.specs.declared.attempts.RetryAnswer.{RetryAnswer}
-use Rattle.queue_questions.specs.Questions.{yesOrNo, asked, nothingLeft, finishable, committed, isEmptyTold, isIssuedTold, isPendingTold, isSettledTold, isCancelledTold, hasFailedTold, canRetryTold, canFinishTold, domainTold}
+use Rattle.queue_questions.specs.Questions.{yesOrNo, asked, nothingLeft, finishable, committed, isEmptyTold, isIssuedTold, isPendingTold}
+use Rattle.queue_questions.specs.Questions.{isSettledTold, isCancelledTold, hasFailedTold, canRetryTold, canFinishTold, domainTold}
 use Rattle.queue_questions.specs.declared.questions.Told.{Told}
 use Rattle.queue_questions.specs.declared.questions.DomainTold.{DomainTold}
 use Rattle.queue_stages.specs.Stages.{afterAdmit, admitted, ended, cancelledBy}
@@ -47,7 +48,8 @@ use Rattle.queue_stages.specs.declared.stages.StageAnswer.{StageAnswer}
 use Rattle.queue_stages.specs.declared.stages.CancelAnswer.{CancelAnswer}
 use Rattle.queue_stages.specs.declared.stages.Cancelled.{Cancelled}
 use Rattle.cleanup_queue.specs.Answers.{Said, says, openedSays, registeredSays, poppedSays, completedSays, retriedSays, toldSays, cancelledSays, domainSays}
-use Rattle.cleanup_queue.specs.Orders.{due, firstSaid, RefusedAs, openingOrder, registerOrder, landOrder, freshToken, chosenToken, isHollow, popOrder, freshValues, workValues, completeOrder, retryOrder, renewedValues, brokenOnly, bit, Tells}
+use Rattle.cleanup_queue.specs.Orders.{due, firstSaid, RefusedAs, openingOrder, registerOrder, landOrder, freshToken, chosenToken, isHollow}
+use Rattle.cleanup_queue.specs.Orders.{popOrder, freshValues, workValues, completeOrder, retryOrder, renewedValues, brokenOnly, bit, Tells}
 use Rattle.cleanup_queue.proofs.ByCase.{all-occupied, register-cases, register-by, land-cases, land-by, pop-cases, pop-by, complete-cases, complete-by, retry-cases, retry-by}
 use Rattle.cleanup_queue.proofs.Upstream.{admit-answers, end-answers}
 
@@ -128,13 +130,15 @@ module _ (q : Queue) where
 
   by-said : (s : Selection) → q .selection ≡ s
       → takenAs (dueBy (sought s (q .slots)) (q .slots) (q .domain) (q .next) s)
-      ≡ firstSaid (due hollow (isHollow q (chosenToken false false s (waiting q))) ∷ due noAttempt (isThere (freshToken false false s (waiting q)) && leb noMore (q .next)) ∷ []) [] (workValues q false false s)
+      ≡ firstSaid (due hollow (isHollow q (chosenToken false false s (waiting q)))
+      ∷ due noAttempt (isThere (freshToken false false s (waiting q)) && leb noMore (q .next)) ∷ []) [] (workValues q false false s)
   by-said Free e = ap (λ (ks : List ℕ). takenAs (freshDue (newest ks) (q .slots) (q .domain) (q .next))) (sym (all-occupied q e)) ∙ fresh-said (newest (waiting q))
   by-said (Of t) e = due-if takenAs (eqb (slot q (t .token)) 0) _ _ refl refl
 
   -- while something is issued or failed nothing is due
   idle-said : (i f : Bool) → takenAs (popDue i f (q .selection) (sought (q .selection) (q .slots)) (q .slots) (q .domain) (q .next))
-      ≡ firstSaid (due hollow (isHollow q (chosenToken i f (q .selection) (waiting q))) ∷ due noAttempt (isThere (freshToken i f (q .selection) (waiting q)) && leb noMore (q .next)) ∷ []) [] (workValues q i f (q .selection))
+      ≡ firstSaid (due hollow (isHollow q (chosenToken i f (q .selection) (waiting q)))
+      ∷ due noAttempt (isThere (freshToken i f (q .selection) (waiting q)) && leb noMore (q .next)) ∷ []) [] (workValues q i f (q .selection))
   unfolding popDue
   idle-said true f = refl
   idle-said false true = refl
@@ -215,7 +219,10 @@ module _ (q : Queue) where
 
   -- what each of the eight questions says
   pub questions-said : (target : List ℕ)
-      → Tells q (nothingLeft (q .selection) (waiting q)) (isEmptyTold q) × Tells q (q .issued) (isIssuedTold q) × Tells q (isPending (q .phase)) (isPendingTold q) × Tells q (isSettled (q .phase)) (isSettledTold q) × Tells q (isCancelled (q .phase)) (isCancelledTold q) × Tells q (q .failed) (hasFailedTold q) × Tells q (retryAllowed q (q .selection)) (canRetryTold q) × Tells q (finishable (q .selection) (q .phase) target (committed q)) (canFinishTold q target)
+      → Tells q (nothingLeft (q .selection) (waiting q)) (isEmptyTold q) × Tells q (q .issued) (isIssuedTold q)
+      × Tells q (isPending (q .phase)) (isPendingTold q) × Tells q (isSettled (q .phase)) (isSettledTold q)
+      × Tells q (isCancelled (q .phase)) (isCancelledTold q) × Tells q (q .failed) (hasFailedTold q)
+      × Tells q (retryAllowed q (q .selection)) (canRetryTold q) × Tells q (finishable (q .selection) (q .phase) target (committed q)) (canFinishTold q target)
   unfolding isEmptyTold isIssuedTold isPendingTold isSettledTold isCancelledTold hasFailedTold canRetryTold canFinishTold
   questions-said target = (
     asked-said (nothingLeft (q .selection) (waiting q)),

@@ -1,3 +1,4 @@
 pub mod BackWords
+pub mod Calls
 pub mod Ended
 pub mod ToldLaws

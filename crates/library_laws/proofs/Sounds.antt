@@ -19,7 +19,8 @@ use Rattle.cleanup_queue.specs.Runs.{Call, after}
 use Rattle.cleanup_queue.proofs.Keeps.{call-keeps}
 use Rattle.cleanup_queue.proofs.Sizes.{call-sized}
 use Rattle.queue_words.specs.Words.{word, ticketOf, queueOf, wordsOf, isSound}
-use Rattle.queue_words.specs.Exported.{Exported, bornSaid, popSaid, completeSaid, retrySaid, toldSaid, cancelSaid, registerOn, landOn, popOn, completeOn, retryOn, admitOn, admitWithoutOn, endOn, cancelOn}
+use Rattle.queue_words.specs.Exported.{Exported, bornSaid, popSaid, completeSaid, retrySaid, toldSaid, cancelSaid, registerOn, landOn, popOn}
+use Rattle.queue_words.specs.Exported.{completeOn, retryOn, admitOn, admitWithoutOn, endOn, cancelOn}
 use Rattle.queue_words.proofs.RoundTrip.{queue-sized}
 use Rattle.queue_words.proofs.OnWords.{record-sound, sound-fits, sound-on, sound-length}
 use Rattle.library_laws.specs.CallWords.{WordCall, register, land, pop, complete, retry, admit, admitWithout, end, cancel, wordsAfter, wordsAfterAll}

@@ -1,5 +1,6 @@
 -- `lent_steps::pop_via` meets its contract: a walk of its MIR, by hand. A local queue is lent to `pop_lent` for a lifetime that is made for the call, and comes back at the last value of the loan.
--- The loan is `lends-queue` and `returned` of `queue_lent`'s `proofs/Lending.antt`. All that it knows of the callee is that it meets its contract: `proofs/Callers.antt` there. No line names a field of `Queue`.
+-- The loan is `lends-queue` and `returned` of `queue_lent`'s `proofs/Lending.antt`. All that it knows of the callee is that it meets its contract:
+-- `proofs/Callers.antt` there. No line names a field of `Queue`.
 -- Assumes nothing.
 use mathlib.Core.Path.{_≡_, refl}
 use mathlib.Core.List.{[], _∷_, List}
@@ -84,7 +85,8 @@ module _ {M : Type 1} (𝓤 : URA M) (H : Heap 𝓤) (A : Atoms 𝓤) (W : Given
     exits : (r : PopAnswer) → r ≡ popped h → Is R.the-row r (rv r ∷ []) → ent 𝓤 (emp 𝓤) (Post (rv r))
     exits r e is =
         qed W [] ∵ suffices ! _ (ends-at 𝓤 H A f.ended stayed (f.clauses 𝓤 H A at-mem run) W ((tt, tt, tt, a, at), tt) (rv r) r (tt, tt) (tt, tt)) $ says ! e $
-        owned ! R.the-row (Is R.the-row) (LL.makes R.the-type R′.the-plain 𝓤 H A) r _ is $ nothing ! $ owned ! Q.the-row (Is Q.the-row) (LL.makes Q.the-type Q′.the-plain 𝓤 H A) h _ was $ fjoin ! $ nothing ! $ done !
+        owned ! R.the-row (Is R.the-row) (LL.makes R.the-type R′.the-plain 𝓤 H A) r _ is $ nothing ! $
+        owned ! Q.the-row (Is Q.the-row) (LL.makes Q.the-type Q′.the-plain 𝓤 H A) h _ was $ fjoin ! $ nothing ! $ done !
 
     module _ (C : Calls 𝓤 H) (Λ : Loops 𝓤 H) (fm : FmC 𝓤 H (W .laws) C) (pops : Triple 𝓤 (C #pop) (Pops 𝓤 H A at-mem run)) where
       walk : ent 𝓤 (onEntry 𝓤 H A f.signature tt tt a at) (WpFn 𝓤 H C Λ code.function (qv h ∷ []) Post)
@@ -109,7 +111,8 @@ module _ {M : Type 1} (𝓤 : URA M) (H : Heap 𝓤) (A : Atoms 𝓤) (W : Given
           move ! (10 ∷ 11 ∷ []) $ free1 ! $ move ! (8 ∷ 9 ∷ []) $ free1 ! $ move ! (0 ∷ 7 ∷ []) $ free1 ! $ move ! (4 ∷ 5 ∷ []) $ free1 ! $ move ! (2 ∷ 3 ∷ []) $ free1 ! $ free1 ! $ free0 ! $
           keep ! [] $ by ! (exits (all p z) (is-popped h p z e) (all-is p z is-p is-z)))))))))))
 
-f-walks : {M : Type 1} (𝓤 : URA M) (H : Heap 𝓤) (A : Atoms 𝓤) (W : Given 𝓤 H A) (at-mem : Memory → SProp 𝓤) (run : Routine → Fun 𝓤) (C : Calls 𝓤 H) (Λ : Loops 𝓤 H) → FmC 𝓤 H (W .laws) C → Triple 𝓤 (C #pop) (Pops 𝓤 H A at-mem run)
+f-walks : {M : Type 1} (𝓤 : URA M) (H : Heap 𝓤) (A : Atoms 𝓤) (W : Given 𝓤 H A) (at-mem : Memory → SProp 𝓤) (run : Routine → Fun 𝓤) (C : Calls 𝓤 H)
+    (Λ : Loops 𝓤 H) → FmC 𝓤 H (W .laws) C → Triple 𝓤 (C #pop) (Pops 𝓤 H A at-mem run)
     → Walks 𝓤 H A f.ended stayed (WpFn 𝓤 H C Λ code.function) (f.clauses 𝓤 H A at-mem run)
 f-walks 𝓤 H A W at-mem run C Λ fm pops =
     walked 𝓤 H A f.ended stayed (f.clauses 𝓤 H A at-mem run) (WpFn 𝓤 H C Λ code.function) (λ κs. (LL.vals Q.the-type Q′.the-laws, tt)) (λ κs. (LL.tells Q.the-type Q′.the-laws, tt))

@@ -1,9 +1,12 @@
--- `queue_lent::complete_lent` meets its contract: a walk of its MIR, by hand. The borrow is opened, the whole record is copied out, `complete` is called on the copy, the queue of its answer is stored over the record, and the borrow is closed at it.
+-- `queue_lent::complete_lent` meets its contract: a walk of its MIR, by hand. The borrow is opened, the whole record is copied out, `complete` is
+-- called on the copy, the queue of its answer is stored over the record, and the borrow is closed at it.
 -- What it has in common with `pop_lent` is in `proofs/Lending.antt`. All that it knows of `complete` is that `complete` meets its contract.
 -- When `Queue` gains or loses a field, or a field changes its type: no line changes, here or in `Lending.antt`. No line names a field of `Queue`, and the record goes in and out whole.
 -- When `Completed` gains a variant, or `Ticket` a field: no line changes.
--- When `CompleteAnswer` gains a field behind its two: no line changes. When its two change places: `is-answer` and `is-queue` (`.0` is the first field, `.1 .0` the second), and `sub ! 0` and `sub ! 1` in the two lines below "`*q = back.queue; back.answer`".
--- When `complete` gains a parameter: `stayed`, the module's parameters, `x`, `at`, `to`, `exits` and `f-walks`, and `passed` of `Lending.antt`, gain an entry, and in `walk` one `alloc1`, one `pass1`, one operand and one `free1` are added, and each position of `_1` and `_0` rises by 2.
+-- When `CompleteAnswer` gains a field behind its two: no line changes. When its two change places: `is-answer` and `is-queue` (`.0` is the first
+-- field, `.1 .0` the second), and `sub ! 0` and `sub ! 1` in the two steps below "`*q = back.queue; back.answer`".
+-- When `complete` gains a parameter: `stayed`, the module's parameters, `x`, `at`, `to`, `exits` and `f-walks`, and `passed` of `Lending.antt`, gain
+-- an entry, and in `walk` one `alloc1`, one `pass1`, one operand and one `free1` are added, and each position of `_1` and `_0` rises by 2.
 -- Assumes nothing.
 use mathlib.Core.Path.{_≡_, refl, ap}
 use Prim.Native.Nat.{ℕ, _<_, _^_}
@@ -86,7 +89,8 @@ is-queue r is = LL.owed R.the-type R′.the-laws r _ is .1 .0
 abbrev Callee : {M : Type 1} (𝓤 : URA M) (H : Heap 𝓤) (A : Atoms 𝓤) (at-mem : Memory → SProp 𝓤) (run : Routine → Fun 𝓤) → Contract 𝓤
 Callee 𝓤 H A at-mem run = tripleOf 𝓤 H A callee.signature (callee.spec 𝓤 H A at-mem run)
 
-module _ {M : Type 1} (𝓤 : URA M) (H : Heap 𝓤) (A : Atoms 𝓤) (W : Given 𝓤 H A) (at-mem : Memory → SProp 𝓤) (run : Routine → Fun 𝓤) (κ : Lft) (q : Share) (b o : ℕ) (γ : GName) (h : Queue) (t : Ticket) (oc kp : ℕ) (gt : IsTicket t) (go : oc < 2 ^ 64) (gk : kp < 2 ^ 64) where
+module _ {M : Type 1} (𝓤 : URA M) (H : Heap 𝓤) (A : Atoms 𝓤) (W : Given 𝓤 H A) (at-mem : Memory → SProp 𝓤) (run : Routine → Fun 𝓤) (κ : Lft)
+    (q : Share) (b o : ℕ) (γ : GName) (h : Queue) (t : Ticket) (oc kp : ℕ) (gt : IsTicket t) (go : oc < 2 ^ 64) (gk : kp < 2 ^ 64) where
   abbrev x : RefT Queue × (Ticket × (ℕ × (ℕ × Unit {0})))
   x = (record { ptr = (b, o); name = γ; now = h }, (t, (oc, (kp, tt))))
 
@@ -107,47 +111,68 @@ module _ {M : Type 1} (𝓤 : URA M) (H : Heap 𝓤) (A : Atoms 𝓤) (W : Given
       → ent 𝓤 (⋆ 𝓤 H A (‵ (fobs γ (Q.the-row .coded .code (r .queue))) ∷ ‵ (fbor κ (Body (mem Q.the-row) b o γ)) ∷ ‵ (flft κ q) ∷ [])) (Post (pv (r .answer)))
   exits r e is =
       qed W (‵ (fobs γ (Q.the-row .coded .code (r .queue))) ∷ ‵ (fbor κ (Body (mem Q.the-row) b o γ)) ∷ ‵ (flft κ q) ∷ []) ∵
-      suffices ! _ (ends-at 𝓤 H A f.ended stayed (f.clauses 𝓤 H A at-mem run) W (((κ, tt), (q, tt), tt, x, at), tt) (pv (r .answer)) (r .answer) (r .queue, (tt, (tt, (tt, tt)))) (tt, (tt, (tt, (tt, tt))))) $ says ! (ap (λ (y : CompleteAnswer). y .answer) e, ap (λ (y : CompleteAnswer). y .queue) e) $ nothing ! $ move ! (3 ∷ 0 ∷ []) $ join ! $
+      suffices ! _ (ends-at 𝓤 H A f.ended stayed (f.clauses 𝓤 H A at-mem run) W (((κ, tt), (q, tt), tt, x, at), tt) (pv (r .answer)) (r .answer)
+      (r .queue, (tt, (tt, (tt, tt)))) (tt, (tt, (tt, (tt, tt))))) $
+      says ! (ap (λ (y : CompleteAnswer). y .answer) e, ap (λ (y : CompleteAnswer). y .queue) e) $ nothing ! $ move ! (3 ∷ 0 ∷ []) $ join ! $
       frame ! $ feqI ! (List Val) (vptr b o ∷ []) (vptr b o ∷ []) refl $ fjoin3 ! $ passed ! t oc kp gt go gk $ move ! (1 ∷ 0 ∷ []) $ fjoin ! $ frame ! $
       owned ! P.the-row (Is P.the-row) (EL.makes P.the-type P′.the-plain 𝓤 H A) (r .answer) _ (is-answer r is) $ done !
 
   module _ (C : Calls 𝓤 H) (Λ : Loops 𝓤 H) (fm : FmC 𝓤 H (W .laws) C) (known : Triple 𝓤 (C #callee) (Callee 𝓤 H A at-mem run)) where
     walk : ent 𝓤 (onEntry 𝓤 H A f.signature (κ, tt) (q, tt) x at) (WpFn 𝓤 H C Λ code.function (vptr b o ∷ tv t ∷ vint w64 oc ∷ vint w64 kp ∷ []) Post)
     walk =
-        qed W ((‵ (flft κ q) ⊛ ‵ ftrue) ∷ ‵ (owns (MutRef (named 0) κ Q.the-row ∷ T.the-row ∷ u64 ∷ u64 ∷ []) x at) ∷ []) ∵ split ! $ move ! (2 ∷ []) $ fsplit ! $ fsplit3 ! $ drop ! $ move ! (0 ∷ 1 ∷ 3 ∷ []) $
+        qed W ((‵ (flft κ q) ⊛ ‵ ftrue) ∷ ‵ (owns (MutRef (named 0) κ Q.the-row ∷ T.the-row ∷ u64 ∷ u64 ∷ []) x at) ∷ []) ∵ split ! $
+        move ! (2 ∷ []) $ fsplit ! $ fsplit3 ! $ drop ! $ move ! (0 ∷ 1 ∷ 3 ∷ []) $
         -- [obs; the borrow; the token; true; true]
         enter ! C Λ code.function (vptr b o ∷ tv t ∷ vint w64 oc ∷ vint w64 kp ∷ []) _ $
         alloc1 ! (λ l₀. alloc1 ! (λ l₁. alloc1 ! (λ l₂. alloc1 ! (λ l₃. alloc1 ! (λ l₄. alloc1 ! (λ l₅. alloc1 ! (λ l₆. alloc0 ! $ params1 ! $ pass1 ! (init ! 10 refl (tt, tt)) $
-        pass1 ! (init ! 8 refl (LL.lawful T.the-type T′.the-laws 𝓤 H A W .typed t _ gt .0)) $ pass1 ! (init ! 6 refl (tt, record { fits = go })) $ pass1 ! (init ! 4 refl (tt, record { fits = gk })) $ pass0 ! $
+        pass1 ! (init ! 8 refl (LL.lawful T.the-type T′.the-laws 𝓤 H A W .typed t _ gt .0)) $ pass1 ! (init ! 6 refl (tt, record { fits = go })) $
+        pass1 ! (init ! 4 refl (tt, record { fits = gk })) $ pass0 ! $
         -- [_6; …; _5; …; _4; …; _3; …; _2; …; _1; …; _0; …; obs; the borrow; the token; …]: the borrow is opened
         move ! (14 ∷ 15 ∷ 16 ∷ []) $ opens-queue ! tt h b o (λ was.
         -- [the record's cell; the open borrow; obs; auth; _6; …; _5; …; …; _1; …; _0; …]: `let was = *q`
         assigns ! (of-opd ! (load ! (from ! (hop ! (look ! 14 refl) (stop !))) (look-raw ! 0 refl))) (from ! (stop !)) (init ! 6 refl (queue-typed 𝓤 H A W h was)) $
         -- `let back = complete(was, ticket, outcome, kept)`
         use0 W (raw (Callee 𝓤 H A at-mem run .pre to)) (asks was) $
-        calls-at ! fm (Callee 𝓤 H A at-mem run) known to (and-then ! (load ! (from ! (stop !)) (look ! 7 refl)) (and-then ! (load ! (from ! (stop !)) (look ! 13 refl)) (and-then ! (load ! (from ! (stop !)) (look ! 11 refl)) (and-then ! (load ! (from ! (stop !)) (look ! 9 refl)) (no-more !))))) (λ v.
+        calls-at ! fm (Callee 𝓤 H A at-mem run) known to
+        (and-then ! (load ! (from ! (stop !)) (look ! 7 refl))
+        (and-then ! (load ! (from ! (stop !)) (look ! 13 refl))
+        (and-then ! (load ! (from ! (stop !)) (look ! 11 refl)) (and-then ! (load ! (from ! (stop !)) (look ! 9 refl)) (no-more !))))) (λ v.
         answered ! R.the-row rv (LL.tells R.the-type R′.the-laws) (λ _ ws. sem 𝓤 H A (lasts callee.ended tt (h, (t, (oc, (kp, tt)))) ws)) (λ r. r ≡ completed h t oc kp) v (id⊢ 𝓤 _) (λ r e is.
         land ! (from ! (stop !)) (init ! 4 refl (LL.lawful R.the-type R′.the-laws 𝓤 H A W .typed r _ is .0)) $
         -- `*q = back.queue; back.answer`
-        assigns ! (of-opd ! (load ! (from ! (fld ! refl (stop !))) (look-in ! 4 (sub ! 1 refl (whole !))))) (from ! (hop ! (look ! 14 refl) (stop !))) (store-raw ! 0 refl (queue-typed 𝓤 H A W (r .queue) (is-queue r is))) $
-        assigns ! (of-opd ! (load ! (from ! (fld ! refl (stop !))) (look-in ! 4 (sub ! 0 refl (whole !))))) (from ! (stop !)) (init ! 16 refl (EL.lawful P.the-type P′.the-laws 𝓤 H A W tt .typed (r .answer) _ (is-answer r is) .0)) $
+        assigns ! (of-opd ! (load ! (from ! (fld ! refl (stop !))) (look-in ! 4 (sub ! 1 refl (whole !))))) (from ! (hop ! (look ! 14 refl) (stop !)))
+        (store-raw ! 0 refl (queue-typed 𝓤 H A W (r .queue) (is-queue r is))) $
+        assigns ! (of-opd ! (load ! (from ! (fld ! refl (stop !))) (look-in ! 4 (sub ! 0 refl (whole !))))) (from ! (stop !))
+        (init ! 16 refl (EL.lawful P.the-type P′.the-laws 𝓤 H A W tt .typed (r .answer) _ (is-answer r is) .0)) $
         -- the borrow is closed at the new record
         closes-queue ! tt (r .queue) (is-queue r is) b o $
         -- [obs; the borrow; the token; _6; …; _5; …; …; _1; …; _0; …]
         returns ! (look ! 15 refl) $ forget ! 3 refl $ forget ! 5 refl $ forget ! 7 refl $ forget ! 9 refl $ forget ! 11 refl $ forget ! 13 refl $ forget ! 15 refl $
-        move ! (15 ∷ 16 ∷ []) $ free1 ! $ move ! (13 ∷ 14 ∷ []) $ free1 ! $ move ! (11 ∷ 12 ∷ []) $ free1 ! $ move ! (9 ∷ 10 ∷ []) $ free1 ! $ move ! (7 ∷ 8 ∷ []) $ free1 ! $ move ! (5 ∷ 6 ∷ []) $ free1 ! $ move ! (3 ∷ 4 ∷ []) $ free1 ! $ free0 ! $
+        move ! (15 ∷ 16 ∷ []) $ free1 ! $ move ! (13 ∷ 14 ∷ []) $ free1 ! $ move ! (11 ∷ 12 ∷ []) $ free1 ! $ move ! (9 ∷ 10 ∷ []) $ free1 ! $
+        move ! (7 ∷ 8 ∷ []) $ free1 ! $ move ! (5 ∷ 6 ∷ []) $ free1 ! $ move ! (3 ∷ 4 ∷ []) $ free1 ! $ free0 ! $
         keep ! (0 ∷ 1 ∷ 2 ∷ []) $ by ! (exits r e is)))))))))))
 
 module _ {M : Type 1} (𝓤 : URA M) (H : Heap 𝓤) (A : Atoms 𝓤) (W : Given 𝓤 H A) (at-mem : Memory → SProp 𝓤) (run : Routine → Fun 𝓤) where
-  f-walks : (C : Calls 𝓤 H) (Λ : Loops 𝓤 H) → FmC 𝓤 H (W .laws) C → Triple 𝓤 (C #callee) (Callee 𝓤 H A at-mem run) → Walks 𝓤 H A f.ended stayed (WpFn 𝓤 H C Λ code.function) (f.clauses 𝓤 H A at-mem run)
-  f-walks C Λ fm known = walked 𝓤 H A f.ended stayed (f.clauses 𝓤 H A at-mem run) (WpFn 𝓤 H C Λ code.function) (λ κs. (ptr-vals, (LL.vals T.the-type T′.the-laws, (uint-vals w64, (uint-vals w64, tt))))) (λ κs. (mut-tells (named 0) (κs .0) Q.the-row, (LL.tells T.the-type T′.the-laws, (uint-tells w64, (uint-tells w64, tt)))))
-      (λ κs qs bounds a _ are. via 𝓤 _ (fst∗ 𝓤 _ (emp 𝓤)) (walk 𝓤 H A W at-mem run (κs .0) (qs .0) (a .0 .ptr .0) (a .0 .ptr .1) (a .0 .name) (a .0 .now) (a .1 .0) (a .1 .1 .0) (a .1 .1 .1 .0) (are .1 .0) (are .1 .1 .0 .1) (are .1 .1 .1 .0 .1) C Λ fm known))
+  f-walks : (C : Calls 𝓤 H) (Λ : Loops 𝓤 H) → FmC 𝓤 H (W .laws) C → Triple 𝓤 (C #callee) (Callee 𝓤 H A at-mem run)
+      → Walks 𝓤 H A f.ended stayed (WpFn 𝓤 H C Λ code.function) (f.clauses 𝓤 H A at-mem run)
+  f-walks C Λ fm known =
+      walked 𝓤 H A f.ended stayed (f.clauses 𝓤 H A at-mem run) (WpFn 𝓤 H C Λ code.function)
+      (λ κs. (ptr-vals, (LL.vals T.the-type T′.the-laws, (uint-vals w64, (uint-vals w64, tt)))))
+      (λ κs. (mut-tells (named 0) (κs .0) Q.the-row, (LL.tells T.the-type T′.the-laws, (uint-tells w64, (uint-tells w64, tt)))))
+      (λ κs qs bounds a _ are. via 𝓤 _ (fst∗ 𝓤 _ (emp 𝓤))
+      (walk 𝓤 H A W at-mem run (κs .0) (qs .0) (a .0 .ptr .0) (a .0 .ptr .1) (a .0 .name) (a .0 .now) (a .1 .0) (a .1 .1 .0) (a .1 .1 .1 .0)
+      (are .1 .0) (are .1 .1 .0 .1) (are .1 .1 .1 .0 .1) C Λ fm known))
 
 f-meets : {M : Type 1} (𝓤 : URA M) (H : Heap 𝓤) (A : Atoms 𝓤) (W : Given 𝓤 H A) (at-mem : Memory → SProp 𝓤) (run : Routine → Fun 𝓤) (𝓣 : Tables 𝓤 H) → Triple 𝓤 (𝓣 .C #callee) (Callee 𝓤 H A at-mem run)
     → Meets 𝓤 H A f.signature (WpFn 𝓤 H (𝓣 .C) (𝓣 .Λ) code.function) (f.spec 𝓤 H A at-mem run)
 f-meets 𝓤 H A W at-mem run 𝓣 known =
-    meets 𝓤 H A W 𝓣 code.function f.ended stayed (f.clauses 𝓤 H A at-mem run)
-    (goes-ref 𝓤 H A W 1 0 tt (plain (λ _. Q.the-row)), (goes-none 𝓤 H A W 1 (λ _. T.the-row) yes (λ κs x f. refl), (goes-none 𝓤 H A W 1 (λ _. u64) yes (λ κs x f. refl), (goes-none 𝓤 H A W 1 (λ _. u64) yes (λ κs x f. refl), tt))))
+    meets 𝓤 H A W 𝓣 code.function f.ended stayed (f.clauses 𝓤 H A at-mem run) (
+      goes-ref 𝓤 H A W 1 0 tt (plain (λ _. Q.the-row)),
+      (
+        goes-none 𝓤 H A W 1 (λ _. T.the-row) yes (λ κs x f. refl),
+        (goes-none 𝓤 H A W 1 (λ _. u64) yes (λ κs x f. refl), (goes-none 𝓤 H A W 1 (λ _. u64) yes (λ κs x f. refl), tt)),
+      ),
+    )
     (f-walks 𝓤 H A W at-mem run (𝓣 .C) (𝓣 .Λ) (fmOf 𝓤 H (W .laws) 𝓣) known)
 
 pub complete-lent-spec : {M : Type 1} → stated.statement M

@@ -1,8 +1,10 @@
--- `queue_lent::pop_lent` meets its contract: a walk of its MIR, by hand. The borrow is opened, the whole record is copied out, `pop` is called on the copy, the queue of its answer is stored over the record, and the borrow is closed at it.
+-- `queue_lent::pop_lent` meets its contract: a walk of its MIR, by hand. The borrow is opened, the whole record is copied out, `pop` is called on the
+-- copy, the queue of its answer is stored over the record, and the borrow is closed at it.
 -- What it has in common with `complete_lent` is in `proofs/Lending.antt`. All that it knows of `pop` is that `pop` meets its contract.
 -- When `Queue` gains or loses a field, or a field changes its type: no line changes, here or in `Lending.antt`. No line names a field of `Queue`, and the record goes in and out whole.
 -- When `Popped` gains a variant, or `Ticket` a field: no line changes.
--- When `PopAnswer` gains a field behind its two: no line changes. When its two change places: `is-answer` and `is-queue` (`.0` is the first field, `.1 .0` the second), and `sub ! 0` and `sub ! 1` in the two lines below "`*q = out.queue; out.answer`".
+-- When `PopAnswer` gains a field behind its two: no line changes. When its two change places: `is-answer` and `is-queue` (`.0` is the first field,
+-- `.1 .0` the second), and `sub ! 0` and `sub ! 1` in the two steps below "`*q = out.queue; out.answer`".
 -- When `pop` gains a parameter: see `complete_lent`, which has three more.
 -- Assumes nothing.
 use mathlib.Core.Path.{_≡_, refl, ap}
@@ -101,7 +103,8 @@ module _ {M : Type 1} (𝓤 : URA M) (H : Heap 𝓤) (A : Atoms 𝓤) (W : Given
       → ent 𝓤 (⋆ 𝓤 H A (‵ (fobs γ (Q.the-row .coded .code (r .queue))) ∷ ‵ (fbor κ (Body (mem Q.the-row) b o γ)) ∷ ‵ (flft κ q) ∷ [])) (Post (pv (r .answer)))
   exits r e is =
       qed W (‵ (fobs γ (Q.the-row .coded .code (r .queue))) ∷ ‵ (fbor κ (Body (mem Q.the-row) b o γ)) ∷ ‵ (flft κ q) ∷ []) ∵
-      suffices ! _ (ends-at 𝓤 H A f.ended stayed (f.clauses 𝓤 H A at-mem run) W (((κ, tt), (q, tt), tt, x, at), tt) (pv (r .answer)) (r .answer) (r .queue, tt) (tt, tt)) $ says ! (ap (λ (y : PopAnswer). y .answer) e, ap (λ (y : PopAnswer). y .queue) e) $ nothing ! $ move ! (3 ∷ 0 ∷ []) $ join ! $
+      suffices ! _ (ends-at 𝓤 H A f.ended stayed (f.clauses 𝓤 H A at-mem run) W (((κ, tt), (q, tt), tt, x, at), tt) (pv (r .answer)) (r .answer)
+      (r .queue, tt) (tt, tt)) $ says ! (ap (λ (y : PopAnswer). y .answer) e, ap (λ (y : PopAnswer). y .queue) e) $ nothing ! $ move ! (3 ∷ 0 ∷ []) $ join ! $
       frame ! $ feqI ! (List Val) (vptr b o ∷ []) (vptr b o ∷ []) refl $ fjoin3 ! $ nothing ! $ move ! (1 ∷ 0 ∷ []) $ fjoin ! $ frame ! $
       owned ! P.the-row (Is P.the-row) (EL.makes P.the-type P′.the-plain 𝓤 H A) (r .answer) _ (is-answer r is) $ done !
 
@@ -121,8 +124,10 @@ module _ {M : Type 1} (𝓤 : URA M) (H : Heap 𝓤) (A : Atoms 𝓤) (W : Given
         answered ! R.the-row rv (LL.tells R.the-type R′.the-laws) (λ _ ws. sem 𝓤 H A (lasts callee.ended tt (h, tt) ws)) (λ r. r ≡ popped h) v (id⊢ 𝓤 _) (λ r e is.
         land ! (from ! (stop !)) (init ! 4 refl (LL.lawful R.the-type R′.the-laws 𝓤 H A W .typed r _ is .0)) $
         -- `*q = out.queue; out.answer`
-        assigns ! (of-opd ! (load ! (from ! (fld ! refl (stop !))) (look-in ! 4 (sub ! 1 refl (whole !))))) (from ! (hop ! (look ! 8 refl) (stop !))) (store-raw ! 0 refl (queue-typed 𝓤 H A W (r .queue) (is-queue r is))) $
-        assigns ! (of-opd ! (load ! (from ! (fld ! refl (stop !))) (look-in ! 4 (sub ! 0 refl (whole !))))) (from ! (stop !)) (init ! 10 refl (EL.lawful P.the-type P′.the-laws 𝓤 H A W tt .typed (r .answer) _ (is-answer r is) .0)) $
+        assigns ! (of-opd ! (load ! (from ! (fld ! refl (stop !))) (look-in ! 4 (sub ! 1 refl (whole !))))) (from ! (hop ! (look ! 8 refl) (stop !)))
+        (store-raw ! 0 refl (queue-typed 𝓤 H A W (r .queue) (is-queue r is))) $
+        assigns ! (of-opd ! (load ! (from ! (fld ! refl (stop !))) (look-in ! 4 (sub ! 0 refl (whole !))))) (from ! (stop !))
+        (init ! 10 refl (EL.lawful P.the-type P′.the-laws 𝓤 H A W tt .typed (r .answer) _ (is-answer r is) .0)) $
         -- the borrow is closed at the new record
         closes-queue ! tt (r .queue) (is-queue r is) b o $
         -- [obs; the borrow; the token; _3; …; _2; …; _1; …; _0; …]
@@ -131,7 +136,8 @@ module _ {M : Type 1} (𝓤 : URA M) (H : Heap 𝓤) (A : Atoms 𝓤) (W : Given
         keep ! (0 ∷ 1 ∷ 2 ∷ []) $ by ! (exits r e is))))))))
 
 module _ {M : Type 1} (𝓤 : URA M) (H : Heap 𝓤) (A : Atoms 𝓤) (W : Given 𝓤 H A) (at-mem : Memory → SProp 𝓤) (run : Routine → Fun 𝓤) where
-  f-walks : (C : Calls 𝓤 H) (Λ : Loops 𝓤 H) → FmC 𝓤 H (W .laws) C → Triple 𝓤 (C #callee) (Callee 𝓤 H A at-mem run) → Walks 𝓤 H A f.ended stayed (WpFn 𝓤 H C Λ code.function) (f.clauses 𝓤 H A at-mem run)
+  f-walks : (C : Calls 𝓤 H) (Λ : Loops 𝓤 H) → FmC 𝓤 H (W .laws) C → Triple 𝓤 (C #callee) (Callee 𝓤 H A at-mem run)
+      → Walks 𝓤 H A f.ended stayed (WpFn 𝓤 H C Λ code.function) (f.clauses 𝓤 H A at-mem run)
   f-walks C Λ fm known = walked 𝓤 H A f.ended stayed (f.clauses 𝓤 H A at-mem run) (WpFn 𝓤 H C Λ code.function) (λ κs. (ptr-vals, tt)) (λ κs. (mut-tells (named 0) (κs .0) Q.the-row, tt))
       (λ κs qs bounds a _ _. via 𝓤 _ (fst∗ 𝓤 _ (emp 𝓤)) (walk 𝓤 H A W at-mem run (κs .0) (qs .0) (a .0 .ptr .0) (a .0 .ptr .1) (a .0 .name) (a .0 .now) C Λ fm known))
 

@@ -9,6 +9,6 @@ use Rattle.gulberzan_c.proofs.attempts.gulberzan_pop.Tie as tie
 pub gulberzan-pop-spec : {M : Type 1} → statement M
 gulberzan-pop-spec = tie.close (tie.spec
     (λ c κs. search needs)
-    (λ c. sym (pop-unsound (c .before .before .before .before .args .queue .now) (sym (c .before .before .sound .ensures) ∙ not-true _ (c .before .if1 .taken))))
+    (λ c. sym (pop-unsound _ (sym (c .before .before .sound .ensures) ∙ not-true _ (c .before .if1 .taken))))
     (λ c κs. sym (c .before .before .before .sound .ensures) ∙ not-false _ (c .before .before .if1 .left))
     (λ c. search needs))

@@ -9,6 +9,6 @@ use Rattle.gulberzan_c.proofs.births.gulberzan_land.Tie as tie
 pub gulberzan-land-spec : {M : Type 1} → statement M
 gulberzan-land-spec = tie.close (tie.spec
     (λ c κs. search needs)
-    (λ c. sym (land-unsound (c .before .before .before .before .args .queue .now) (c .before .before .before .before .args .number) (sym (c .before .before .sound .ensures) ∙ not-true _ (c .before .if1 .taken))))
+    (λ c. sym (land-unsound _ _ (sym (c .before .before .sound .ensures) ∙ not-true _ (c .before .if1 .taken))))
     (λ c κs. sym (c .before .before .before .sound .ensures) ∙ not-false _ (c .before .before .if1 .left))
     (λ c. search needs))

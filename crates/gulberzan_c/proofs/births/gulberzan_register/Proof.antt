@@ -10,6 +10,6 @@ pub gulberzan-register-spec : {M : Type 1} → statement M
 gulberzan-register-spec =
     tie.close (tie.spec
     (λ c κs. search needs)
-    (λ c. sym (register-unsound (c .before .before .before .before .args .queue .now) (c .before .before .before .before .args .number) (sym (c .before .before .sound .ensures) ∙ not-true _ (c .before .if1 .taken))))
+    (λ c. sym (register-unsound _ _ (sym (c .before .before .sound .ensures) ∙ not-true _ (c .before .if1 .taken))))
     (λ c κs. sym (c .before .before .before .sound .ensures) ∙ not-false _ (c .before .before .if1 .left))
     (λ c. search needs))

@@ -1,8 +1,11 @@
 -- Refused, or told
-use mathlib.Core.Path.{sym, _∙_}
+use Prim.Native.Nat.{ℕ}
+use mathlib.Core.Path.{_≡_, sym, _∙_}
+use mathlib.Core.Bool.{Bool, true}
+use mathlib.Core.List.{List}
 use borrow.Author.Tests.{not-true, not-false}
 use Rattle.queue_questions.specs.Questions.{canRetryTold}
-use Rattle.queue_words.specs.Words.{selectionIn, queueOf}
+use Rattle.queue_words.specs.Words.{selectionIn, queueOf, isSound}
 use Rattle.queue_steps.specs.Attempts.{retryAllowed}
 use Rattle.queue_words.specs.Exported.{canRetryOn}
 use Rattle.queue_words.proofs.QuestionWords.{told-unsound, told-sound}
@@ -10,12 +13,30 @@ use borrow.Author.Needs.{needs}
 use Rattle.gulberzan_c.proofs.questions.gulberzan_can_retry.Statement.{statement}
 use Rattle.gulberzan_c.proofs.questions.gulberzan_can_retry.Tie as tie
 
+-- what is asked of the words
+abbrev asks : List ℕ → Bool
+asks ws = retryAllowed (queueOf ws) (selectionIn ws)
+
+abbrev toStart : tie.After-sound → tie.Start
+toStart c = c .before
+
+-- behind the check: the words that are asked are sound
+sure : (c : tie.Else1) → isSound (toStart (c .before) .args .queue .now) ≡ true
+sure c = sym (c .before .sound .ensures) ∙ not-false _ (c .if1 .left)
+
 pub gulberzan-can-retry-spec : {M : Type 1} → statement M
 unfolding canRetryOn canRetryTold queueOf
 gulberzan-can-retry-spec =
-    tie.close (tie.spec
+    tie.close
+    (tie.spec
     (λ c κs. search needs)
-    (λ c. sym (told-unsound (c .before .before .before .args .queue .now) (retryAllowed (queueOf (c .before .before .before .args .queue .now)) (selectionIn (c .before .before .before .args .queue .now))) (sym (c .before .before .sound .ensures) ∙ not-true _ (c .before .if1 .taken))))
+    (λ c.
+    let s = toStart (c .before .before) in
+    sym (told-unsound _ (asks (s .args .queue .now)) (sym (c .before .before .sound .ensures) ∙ not-true _ (c .before .if1 .taken))))
     (λ c κs. search needs)
     (λ c κs. search needs)
-    (λ c. rw ((c .before .yes-word .ensures), (c .before .before .retry-allowed .ensures)) (sym (told-sound (c .before .before .before .before .before .args .queue .now) (retryAllowed (queueOf (c .before .before .before .before .before .args .queue .now)) (selectionIn (c .before .before .before .before .before .args .queue .now))) (sym (c .before .before .before .before .sound .ensures) ∙ not-false _ (c .before .before .before .if1 .left))))))
+    (λ c.
+    let at = c .before .before .before in
+    let s = toStart (at .before) in
+    rw ((c .before .yes-word .ensures), (c .before .before .retry-allowed .ensures))
+    (sym (told-sound _ (asks (s .args .queue .now)) (sure at)))))

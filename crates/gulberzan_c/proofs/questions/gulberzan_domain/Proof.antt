@@ -9,6 +9,6 @@ use Rattle.gulberzan_c.proofs.questions.gulberzan_domain.Tie as tie
 pub gulberzan-domain-spec : {M : Type 1} → statement M
 gulberzan-domain-spec = tie.close (tie.spec
     (λ c κs. search needs)
-    (λ c. sym (domain-unsound (c .before .before .before .args .queue .now) (sym (c .before .before .sound .ensures) ∙ not-true _ (c .before .if1 .taken))))
+    (λ c. sym (domain-unsound _ (sym (c .before .before .sound .ensures) ∙ not-true _ (c .before .if1 .taken))))
     (λ c. search needs)
-    (λ c. sym (domain-sound (c .before .before .before .before .args .queue .now) (sym (c .before .before .before .sound .ensures) ∙ not-false _ (c .before .before .if1 .left)))))
+    (λ c. sym (domain-sound _ (sym (c .before .before .before .sound .ensures) ∙ not-false _ (c .before .before .if1 .left)))))

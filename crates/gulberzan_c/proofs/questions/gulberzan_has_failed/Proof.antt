@@ -1,14 +1,28 @@
 -- Refused, or told
-use mathlib.Core.Path.{sym, _∙_}
+use Prim.Native.Nat.{ℕ}
+use mathlib.Core.Path.{_≡_, sym, _∙_}
+use mathlib.Core.Bool.{Bool, true}
+use mathlib.Core.List.{List}
 use borrow.Author.Tests.{not-true, not-false}
 use Rattle.queue_questions.specs.Questions.{hasFailedTold}
 use Rattle.queue_words.specs.Layout.{atFailed}
-use Rattle.queue_words.specs.Words.{word, markAt, queueOf}
+use Rattle.queue_words.specs.Words.{word, markAt, queueOf, isSound}
 use Rattle.queue_words.specs.Exported.{hasFailedOn}
 use Rattle.queue_words.proofs.QuestionWords.{told-unsound, told-sound}
 use borrow.Author.Needs.{needs}
 use Rattle.gulberzan_c.proofs.questions.gulberzan_has_failed.Statement.{statement}
 use Rattle.gulberzan_c.proofs.questions.gulberzan_has_failed.Tie as tie
+
+-- what is asked of the words
+abbrev asks : List ℕ → Bool
+asks ws = markAt (word ws atFailed)
+
+abbrev toStart : tie.After-sound → tie.Start
+toStart c = c .before
+
+-- behind the check: the words that are asked are sound
+sure : (c : tie.Else1) → isSound (toStart (c .before) .args .queue .now) ≡ true
+sure c = sym (c .before .sound .ensures) ∙ not-false _ (c .if1 .left)
 
 pub gulberzan-has-failed-spec : {M : Type 1} → statement M
 unfolding hasFailedOn hasFailedTold queueOf
@@ -16,7 +30,12 @@ gulberzan-has-failed-spec =
     tie.close
     (tie.spec
     (λ c κs. search needs)
-    (λ c. sym (told-unsound (c .before .before .before .args .queue .now) (markAt (word (c .before .before .before .args .queue .now) atFailed)) (sym (c .before .before .sound .ensures) ∙ not-true _ (c .before .if1 .taken))))
+    (λ c.
+    let s = toStart (c .before .before) in
+    sym (told-unsound _ (asks (s .args .queue .now)) (sym (c .before .before .sound .ensures) ∙ not-true _ (c .before .if1 .taken))))
     (λ c. search needs)
     (λ c κs. search needs)
-    (λ c. rw ((c .before .yes-word .ensures)) (sym (told-sound (c .before .before .before .before .before .args .queue .now) (markAt (word (c .before .before .before .before .before .args .queue .now) atFailed)) (sym (c .before .before .before .before .sound .ensures) ∙ not-false _ (c .before .before .before .if1 .left))))))
+    (λ c.
+    let at = c .before .before .before in
+    let s = toStart (at .before) in
+    rw ((c .before .yes-word .ensures)) (sym (told-sound _ (asks (s .args .queue .now)) (sure at)))))

@@ -1,6 +1,5 @@
 -- The stage moved as the target says
 use mathlib.Core.Path.{_≡_, sym, ap, _∙_}
-use mathlib.Core.Bool.{Bool, false}
 use Rattle.stage.specs.declared.phases.Phase.{Phase}
 use Rattle.queue_record.specs.Record.{withPhase}
 use Rattle.queue_words.specs.Words.{queueOf, wordsOf}
@@ -12,9 +11,15 @@ use borrow.Author.Needs.{needs}
 use Rattle.gulberzan_c.proofs.stages.admit_in.Statement.{statement}
 use Rattle.gulberzan_c.proofs.stages.admit_in.Tie as tie
 
--- behind the table: the phase moved to
-moved : (c : tie.After-after-admit) → (c .after-admit .result) ≡ afterAdmit (phaseIn (c .before .before .before .args .queue .now)) (c .before .before .before .args .matched)
-moved c = (c .after-admit .ensures) ∙ ap (λ (p : Phase). afterAdmit p (c .before .before .before .args .matched)) (c .before .phase-at .ensures)
+-- behind the table: what was asked, and the phase moved to
+abbrev asked : tie.After-after-admit → tie.Start
+asked c = c .before .before .before
+
+moved : (c : tie.After-after-admit) → (c .after-admit .result) ≡ afterAdmit (phaseIn (asked c .args .queue .now)) (asked c .args .matched)
+moved c = (c .after-admit .ensures) ∙ ap (λ (p : Phase). afterAdmit p (asked c .args .matched)) (c .before .phase-at .ensures)
+
+abbrev toMoved : tie.After-move-stage → tie.After-after-admit
+toMoved c = c .before .before .before .before
 
 pub admit-in-spec : {M : Type 1} → statement M
 admit-in-spec =
@@ -26,6 +31,9 @@ admit-in-spec =
     (λ c κs. search needs)
     (λ c κs. search needs)
     (λ c.
-    let at = (c .before .before .before .before) in
-    let a = at .before .before .before .args in
-    (c .move-stage .ensures) ∙ (ap (λ (p : Phase). saidIn (wordsOf (withPhase (queueOf (a .queue .now)) p)) (c .before .before .pending .result)) (moved at) ∙ (ap (saidIn _) ((c .before .before .pending .ensures) ∙ ap isPending (moved at)) ∙ sym (admit-by-moved (a .queue .now) (at .before .before .before .pre) (a .matched))))))
+    let at = toMoved c in
+    let ws = asked at .args .queue .now in
+    (c .move-stage .ensures)
+    ∙ (ap (λ (p : Phase). saidIn (wordsOf (withPhase (queueOf ws) p)) (c .before .before .pending .result)) (moved at)
+    ∙ (ap (saidIn _) ((c .before .before .pending .ensures) ∙ ap isPending (moved at))
+    ∙ sym (admit-by-moved ws (asked at .pre) (asked at .args .matched))))))

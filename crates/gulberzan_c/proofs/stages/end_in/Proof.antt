@@ -1,6 +1,5 @@
 -- The stage moved
 use mathlib.Core.Path.{_≡_, sym, ap, _∙_}
-use mathlib.Core.Bool.{Bool, false}
 use Rattle.stage.specs.declared.phases.Phase.{Phase}
 use Rattle.queue_record.specs.Record.{withPhase}
 use Rattle.queue_words.specs.Words.{queueOf, wordsOf}
@@ -12,9 +11,15 @@ use borrow.Author.Needs.{needs}
 use Rattle.gulberzan_c.proofs.stages.end_in.Statement.{statement}
 use Rattle.gulberzan_c.proofs.stages.end_in.Tie as tie
 
--- behind the table: the phase moved to
-moved : (c : tie.After-next-phase) → (c .next-phase .result) ≡ next (phaseIn (c .before .before .before .args .queue .now)) End
+-- behind the table: what was asked, and the phase moved to
+abbrev asked : tie.After-next-phase → tie.Start
+asked c = c .before .before .before
+
+moved : (c : tie.After-next-phase) → (c .next-phase .result) ≡ next (phaseIn (asked c .args .queue .now)) End
 moved c = (c .next-phase .ensures) ∙ ap (λ (p : Phase). next p End) (c .before .phase-at .ensures)
+
+abbrev toMoved : tie.After-move-stage → tie.After-next-phase
+toMoved c = c .before .before .before .before
 
 pub end-in-spec : {M : Type 1} → statement M
 end-in-spec =
@@ -26,6 +31,9 @@ end-in-spec =
     (λ c κs. search needs)
     (λ c κs. search needs)
     (λ c.
-    let at = (c .before .before .before .before) in
-    let a = at .before .before .before .args in
-    (c .move-stage .ensures) ∙ (ap (λ (p : Phase). saidIn (wordsOf (withPhase (queueOf (a .queue .now)) p)) (c .before .before .pending .result)) (moved at) ∙ (ap (saidIn _) ((c .before .before .pending .ensures) ∙ ap isPending (at .before .phase-at .ensures)) ∙ sym (end-moved (a .queue .now) (at .before .before .before .pre))))))
+    let at = toMoved c in
+    let ws = asked at .args .queue .now in
+    (c .move-stage .ensures)
+    ∙ (ap (λ (p : Phase). saidIn (wordsOf (withPhase (queueOf ws) p)) (c .before .before .pending .result)) (moved at)
+    ∙ (ap (saidIn _) ((c .before .before .pending .ensures) ∙ ap isPending (at .before .phase-at .ensures))
+    ∙ sym (end-moved ws (asked at .pre))))))

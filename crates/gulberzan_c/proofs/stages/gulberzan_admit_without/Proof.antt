@@ -1,10 +1,10 @@
 -- Refused, or told
 use Prim.Native.Nat.{ℕ}
-use mathlib.Core.Path.{_≡_, sym, ap, _∙_}
-use mathlib.Core.Bool.{true, false}
+use mathlib.Core.Path.{_≡_, sym, _∙_}
+use mathlib.Core.Bool.{true}
 use mathlib.Core.List.{List}
 use borrow.Author.Tests.{not-true, not-false}
-use Rattle.queue_words.specs.Words.{queueOf, isSound}
+use Rattle.queue_words.specs.Words.{isSound}
 use Rattle.queue_words.specs.Exported.{admitWithoutOn}
 use Rattle.queue_words.proofs.StageWords.{admit-without-unsound}
 use borrow.Author.Needs.{needs}
@@ -24,6 +24,6 @@ gulberzan-admit-without-spec =
     tie.close
     (tie.spec
     (λ c κs. search needs)
-    (λ c. sym (admit-without-unsound (c .before .before .before .before .args .queue .now) (sym (c .before .before .sound .ensures) ∙ not-true _ (c .before .if1 .taken))))
+    (λ c. sym (admit-without-unsound _ (sym (c .before .before .sound .ensures) ∙ not-true _ (c .before .if1 .taken))))
     (λ c κs. sure (c .before .before))
     (λ c. (c .admit-in .ensures)))

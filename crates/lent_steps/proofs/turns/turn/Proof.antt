@@ -1,8 +1,10 @@
--- `lent_steps::turns::turn` meets its contract: a walk of its MIR, by hand. A local queue is lent to `pop_lent` for a lifetime that is made for the call, comes back at the last value of the loan, and is lent to `complete_lent` in the same way.
+-- `lent_steps::turns::turn` meets its contract: a walk of its MIR, by hand. A local queue is lent to `pop_lent` for a lifetime that is made for the
+-- call, comes back at the last value of the loan, and is lent to `complete_lent` in the same way.
 -- The two loans are `lends-queue` and `returned` of `queue_lent`'s `proofs/Lending.antt`. All that it knows of the two callees is that they meet their contracts: `proofs/Callers.antt` there.
 -- When `Queue` or `Ticket` gains or loses a field, or `Popped` or `Completed` a variant: no line changes. No line names a field of `Queue`.
 -- When `TurnAnswer` gains a field or changes their order: `all` and `all-is`, and the operands of `agg`.
--- When one of the two calls gains a parameter: `stayed`, the modules' parameters, `a`, `at`, `exits` and `f-walks`, and in `Callers.antt` `to-…` and `asks-…`, gain an entry, and in `walk` one `alloc1`, one `pass1`, one operand and one `free1` are added, and the positions behind them rise by 2.
+-- When one of the two calls gains a parameter: `stayed`, the modules' parameters, `a`, `at`, `exits` and `f-walks`, and in `Callers.antt` `to-…` and
+-- `asks-…`, gain an entry, and in `walk` one `alloc1`, one `pass1`, one operand and one `free1` are added, and the positions behind them rise by 2.
 -- Assumes nothing.
 use mathlib.Core.Path.{_≡_, refl, ap, _∙_}
 use Prim.Native.Nat.{ℕ, _<_, _^_}
@@ -93,7 +95,8 @@ is-turned h t oc kp p y d z e g =
     let left : z ≡ completed (popped h .queue) t oc kp .queue = g .1 ∙ ap (λ (k : Queue). completed k t oc kp .queue) (e .1) in
     λ i. all (e .0 i) (answer i) (left i)
 
-module _ {M : Type 1} (𝓤 : URA M) (H : Heap 𝓤) (A : Atoms 𝓤) (W : Given 𝓤 H A) (at-mem : Memory → SProp 𝓤) (run : Routine → Fun 𝓤) (t : Ticket) (oc kp : ℕ) (gt : IsTicket t) (go : oc < 2 ^ 64) (gk : kp < 2 ^ 64) where
+module _ {M : Type 1} (𝓤 : URA M) (H : Heap 𝓤) (A : Atoms 𝓤) (W : Given 𝓤 H A) (at-mem : Memory → SProp 𝓤) (run : Routine → Fun 𝓤) (t : Ticket)
+    (oc kp : ℕ) (gt : IsTicket t) (go : oc < 2 ^ 64) (gk : kp < 2 ^ 64) where
   module _ (h : Queue) (was : IsQueue h) where
     abbrev a : Queue × (Ticket × (ℕ × (ℕ × Unit {0})))
     a = (h, (t, (oc, (kp, tt))))
@@ -107,14 +110,18 @@ module _ {M : Type 1} (𝓤 : URA M) (H : Heap 𝓤) (A : Atoms 𝓤) (W : Given
     exits : (r : TurnAnswer) → r ≡ turned h t oc kp → Is R.the-row r (rv r ∷ []) → ent 𝓤 (emp 𝓤) (Post (rv r))
     exits r e is =
         qed W [] ∵ suffices ! _ (ends-at 𝓤 H A f.ended stayed (f.clauses 𝓤 H A at-mem run) W ((tt, tt, tt, a, at), tt) (rv r) r (tt, (tt, (tt, (tt, tt)))) (tt, (tt, (tt, (tt, tt))))) $ says ! e $
-        owned ! R.the-row (Is R.the-row) (LL.makes R.the-type R′.the-plain 𝓤 H A) r _ is $ passed ! t oc kp gt go gk $ owned ! Q.the-row (Is Q.the-row) (LL.makes Q.the-type Q′.the-plain 𝓤 H A) h _ was $ fjoin ! $ nothing ! $ done !
+        owned ! R.the-row (Is R.the-row) (LL.makes R.the-type R′.the-plain 𝓤 H A) r _ is $ passed ! t oc kp gt go gk $
+        owned ! Q.the-row (Is Q.the-row) (LL.makes Q.the-type Q′.the-plain 𝓤 H A) h _ was $ fjoin ! $ nothing ! $ done !
 
     module _ (C : Calls 𝓤 H) (Λ : Loops 𝓤 H) (fm : FmC 𝓤 H (W .laws) C) (pops : Triple 𝓤 (C #pop) (Pops 𝓤 H A at-mem run)) (completes : Triple 𝓤 (C #complete) (Completes 𝓤 H A at-mem run)) where
       walk : ent 𝓤 (onEntry 𝓤 H A f.signature tt tt a at) (WpFn 𝓤 H C Λ code.function (qv h ∷ tv t ∷ vint w64 oc ∷ vint w64 kp ∷ []) Post)
       walk =
           qed W (‵ ftrue ∷ ‵ (owns (Q.the-row ∷ T.the-row ∷ u64 ∷ u64 ∷ []) a at) ∷ []) ∵ enter ! C Λ code.function (qv h ∷ tv t ∷ vint w64 oc ∷ vint w64 kp ∷ []) _ $
-          alloc1 ! (λ l₀. alloc1 ! (λ l₁. alloc1 ! (λ l₂. alloc1 ! (λ l₃. alloc1 ! (λ l₄. alloc1 ! (λ l₅. alloc1 ! (λ l₆. alloc1 ! (λ l₇. alloc1 ! (λ l₈. alloc1 ! (λ l₉. alloc1 ! (λ l₁₀. alloc0 ! $ params1 ! $
-          pass1 ! (init ! 18 refl (queue-typed 𝓤 H A W h was)) $ pass1 ! (init ! 16 refl (LL.lawful T.the-type T′.the-laws 𝓤 H A W .typed t _ gt .0)) $ pass1 ! (init ! 14 refl (tt, record { fits = go })) $ pass1 ! (init ! 12 refl (tt, record { fits = gk })) $ pass0 ! $
+          alloc1 ! (λ l₀. alloc1 ! (λ l₁. alloc1 ! (λ l₂. alloc1 ! (λ l₃. alloc1 ! (λ l₄. alloc1 ! (λ l₅. alloc1 ! (λ l₆. alloc1 ! (λ l₇.
+          alloc1 ! (λ l₈. alloc1 ! (λ l₉. alloc1 ! (λ l₁₀. alloc0 ! $ params1 ! $
+          pass1 ! (init ! 18 refl (queue-typed 𝓤 H A W h was)) $
+          pass1 ! (init ! 16 refl (LL.lawful T.the-type T′.the-laws 𝓤 H A W .typed t _ gt .0)) $ pass1 ! (init ! 14 refl (tt, record { fits = go })) $
+          pass1 ! (init ! 12 refl (tt, record { fits = gk })) $ pass0 ! $
           -- [_10; …; _9; …; _8; …; _7; …; _6; …; _5; …; _4; …; _3; …; _2; …; _1; …; _0; …]: `let mut own = q`
           assigns ! (of-opd ! (load ! (from ! (stop !)) (look ! 18 refl))) (from ! (stop !)) (init ! 10 refl (queue-typed 𝓤 H A W h was)) $
           -- `let a = pop_lent(&mut own)`
@@ -127,33 +134,48 @@ module _ {M : Type 1} (𝓤 : URA M) (H : Heap 𝓤) (A : Atoms 𝓤) (W : Given
           land ! (from ! (stop !)) (init ! 9 refl (EL.lawful P.the-type P′.the-laws 𝓤 H A W tt .typed p _ is-p .0)) $
           -- `let b = complete_lent(&mut own, ticket, outcome, kept)`
           assigns ! (addr ! (from ! (stop !))) (from ! (stop !)) (init ! 3 refl (tt, tt)) $
-          lends-queue ! tt y l₅ is-y (λ β δ. use2 W (raw (Completes 𝓤 H A at-mem run .pre (to-complete 𝓤 H A at-mem run β l₅ δ y t oc kp))) (asks-complete 𝓤 H A at-mem run β l₅ δ y t oc kp W gt go gk) $
+          lends-queue ! tt y l₅ is-y (λ β δ.
+          use2 W (raw (Completes 𝓤 H A at-mem run .pre (to-complete 𝓤 H A at-mem run β l₅ δ y t oc kp)))
+          (asks-complete 𝓤 H A at-mem run β l₅ δ y t oc kp W gt go gk) $
           calls-at ! fm (Completes 𝓤 H A at-mem run) completes (to-complete 𝓤 H A at-mem run β l₅ δ y t oc kp)
-          (and-then ! (load ! (from ! (stop !)) (look ! 4 refl)) (and-then ! (load ! (from ! (stop !)) (look ! 17 refl)) (and-then ! (load ! (from ! (stop !)) (look ! 15 refl)) (and-then ! (load ! (from ! (stop !)) (look ! 13 refl)) (no-more !))))) (λ w.
-          returned ! D.the-row dv (EL.tells D.the-type D′.the-laws) {X = Queue × (Unit {0} × (Unit {0} × (Unit {0} × Unit {0})))} (λ _. fsep ftrue (fsep ftrue (fsep ftrue ftrue))) (λ zs. zs .0) (CompleteSays y t oc kp) β δ l₅ w (id⊢ 𝓤 _) (λ d z g is-d is-z.
+          (and-then ! (load ! (from ! (stop !)) (look ! 4 refl))
+          (and-then ! (load ! (from ! (stop !)) (look ! 17 refl))
+          (and-then ! (load ! (from ! (stop !)) (look ! 15 refl)) (and-then ! (load ! (from ! (stop !)) (look ! 13 refl)) (no-more !))))) (λ w.
+          returned ! D.the-row dv (EL.tells D.the-type D′.the-laws) {X = Queue × (Unit {0} × (Unit {0} × (Unit {0} × Unit {0})))}
+          (λ _. fsep ftrue (fsep ftrue (fsep ftrue ftrue))) (λ zs. zs .0) (CompleteSays y t oc kp) β δ l₅ w (id⊢ 𝓤 _) (λ d z g is-d is-z.
           land ! (from ! (stop !)) (init ! 7 refl (EL.lawful D.the-type D′.the-laws 𝓤 H A W tt .typed d _ is-d .0)) $
           -- the record is put together
           assigns ! (of-opd ! (load ! (from ! (stop !)) (look ! 0 refl))) (from ! (stop !)) (init ! 1 refl (queue-typed 𝓤 H A W z is-z)) $
-          assigns ! (agg ! (and-then ! (load ! (from ! (stop !)) (look ! 9 refl)) (and-then ! (load ! (from ! (stop !)) (look ! 7 refl)) (and-then ! (load ! (from ! (stop !)) (look ! 1 refl)) (no-more !))))) (from ! (stop !))
+          assigns ! (agg ! (and-then ! (load ! (from ! (stop !)) (look ! 9 refl))
+          (and-then ! (load ! (from ! (stop !)) (look ! 7 refl)) (and-then ! (load ! (from ! (stop !)) (look ! 1 refl)) (no-more !))))) (from ! (stop !))
           (init ! 20 refl (LL.lawful R.the-type R′.the-laws 𝓤 H A W .typed (all p d z) _ (all-is p d z is-p is-d is-z) .0)) $
-          returns ! (look ! 20 refl) $ forget ! 0 refl $ forget ! 1 refl $ forget ! 3 refl $ forget ! 5 refl $ forget ! 7 refl $ forget ! 9 refl $ forget ! 12 refl $ forget ! 14 refl $ forget ! 16 refl $ forget ! 18 refl $ forget ! 20 refl $
-          move ! (20 ∷ 21 ∷ []) $ free1 ! $ move ! (18 ∷ 19 ∷ []) $ free1 ! $ move ! (16 ∷ 17 ∷ []) $ free1 ! $ move ! (14 ∷ 15 ∷ []) $ free1 ! $ move ! (12 ∷ 13 ∷ []) $ free1 ! $ move ! (0 ∷ 11 ∷ []) $ free1 ! $
+          returns ! (look ! 20 refl) $ forget ! 0 refl $ forget ! 1 refl $ forget ! 3 refl $ forget ! 5 refl $ forget ! 7 refl $ forget ! 9 refl $
+          forget ! 12 refl $ forget ! 14 refl $ forget ! 16 refl $ forget ! 18 refl $ forget ! 20 refl $
+          move ! (20 ∷ 21 ∷ []) $ free1 ! $ move ! (18 ∷ 19 ∷ []) $ free1 ! $ move ! (16 ∷ 17 ∷ []) $ free1 ! $ move ! (14 ∷ 15 ∷ []) $ free1 ! $
+          move ! (12 ∷ 13 ∷ []) $ free1 ! $ move ! (0 ∷ 11 ∷ []) $ free1 ! $
           move ! (8 ∷ 9 ∷ []) $ free1 ! $ move ! (6 ∷ 7 ∷ []) $ free1 ! $ move ! (4 ∷ 5 ∷ []) $ free1 ! $ move ! (2 ∷ 3 ∷ []) $ free1 ! $ free1 ! $ free0 ! $
           keep ! [] $ by ! (exits (all p d z) (is-turned h t oc kp p y d z e g) (all-is p d z is-p is-d is-z)))))))))))))))))))
 
-f-walks : {M : Type 1} (𝓤 : URA M) (H : Heap 𝓤) (A : Atoms 𝓤) (W : Given 𝓤 H A) (at-mem : Memory → SProp 𝓤) (run : Routine → Fun 𝓤) (C : Calls 𝓤 H) (Λ : Loops 𝓤 H) → FmC 𝓤 H (W .laws) C → Triple 𝓤 (C #pop) (Pops 𝓤 H A at-mem run)
+f-walks : {M : Type 1} (𝓤 : URA M) (H : Heap 𝓤) (A : Atoms 𝓤) (W : Given 𝓤 H A) (at-mem : Memory → SProp 𝓤) (run : Routine → Fun 𝓤) (C : Calls 𝓤 H)
+    (Λ : Loops 𝓤 H) → FmC 𝓤 H (W .laws) C → Triple 𝓤 (C #pop) (Pops 𝓤 H A at-mem run)
     → Triple 𝓤 (C #complete) (Completes 𝓤 H A at-mem run) → Walks 𝓤 H A f.ended stayed (WpFn 𝓤 H C Λ code.function) (f.clauses 𝓤 H A at-mem run)
 f-walks 𝓤 H A W at-mem run C Λ fm pops completes =
     walked 𝓤 H A f.ended stayed (f.clauses 𝓤 H A at-mem run) (WpFn 𝓤 H C Λ code.function)
     (λ κs. (LL.vals Q.the-type Q′.the-laws, (LL.vals T.the-type T′.the-laws, (uint-vals w64, (uint-vals w64, tt)))))
     (λ κs. (LL.tells Q.the-type Q′.the-laws, (LL.tells T.the-type T′.the-laws, (uint-tells w64, (uint-tells w64, tt)))))
-    (λ κs qs bounds b _ are. via 𝓤 _ (fst∗ 𝓤 _ (emp 𝓤)) (walk 𝓤 H A W at-mem run (b .1 .0) (b .1 .1 .0) (b .1 .1 .1 .0) (are .1 .0) (are .1 .1 .0 .1) (are .1 .1 .1 .0 .1) (b .0) (are .0) C Λ fm pops completes))
+    (λ κs qs bounds b _ are. via 𝓤 _ (fst∗ 𝓤 _ (emp 𝓤))
+    (walk 𝓤 H A W at-mem run (b .1 .0) (b .1 .1 .0) (b .1 .1 .1 .0) (are .1 .0) (are .1 .1 .0 .1) (are .1 .1 .1 .0 .1) (b .0) (are .0) C Λ fm pops completes))
 
 f-meets : {M : Type 1} (𝓤 : URA M) (H : Heap 𝓤) (A : Atoms 𝓤) (W : Given 𝓤 H A) (at-mem : Memory → SProp 𝓤) (run : Routine → Fun 𝓤) (𝓣 : Tables 𝓤 H) → Triple 𝓤 (𝓣 .C #pop) (Pops 𝓤 H A at-mem run)
     → Triple 𝓤 (𝓣 .C #complete) (Completes 𝓤 H A at-mem run) → Meets 𝓤 H A f.signature (WpFn 𝓤 H (𝓣 .C) (𝓣 .Λ) code.function) (f.spec 𝓤 H A at-mem run)
 f-meets 𝓤 H A W at-mem run 𝓣 pops completes =
-    meets 𝓤 H A W 𝓣 code.function f.ended stayed (f.clauses 𝓤 H A at-mem run)
-    (goes-none 𝓤 H A W 0 (λ _. Q.the-row) yes (λ κs x f. refl), (goes-none 𝓤 H A W 0 (λ _. T.the-row) yes (λ κs x f. refl), (goes-none 𝓤 H A W 0 (λ _. u64) yes (λ κs x f. refl), (goes-none 𝓤 H A W 0 (λ _. u64) yes (λ κs x f. refl), tt))))
+    meets 𝓤 H A W 𝓣 code.function f.ended stayed (f.clauses 𝓤 H A at-mem run) (
+      goes-none 𝓤 H A W 0 (λ _. Q.the-row) yes (λ κs x f. refl),
+      (
+        goes-none 𝓤 H A W 0 (λ _. T.the-row) yes (λ κs x f. refl),
+        (goes-none 𝓤 H A W 0 (λ _. u64) yes (λ κs x f. refl), (goes-none 𝓤 H A W 0 (λ _. u64) yes (λ κs x f. refl), tt)),
+      ),
+    )
     (f-walks 𝓤 H A W at-mem run (𝓣 .C) (𝓣 .Λ) (fmOf 𝓤 H (W .laws) 𝓣) pops completes)
 
 pub turn-spec : {M : Type 1} → stated.statement M
