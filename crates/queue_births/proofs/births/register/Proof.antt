@@ -39,4 +39,6 @@ register-spec =
     (λ c κs. search needs)
     (λ c. (c .refused2 .ensures) ∙ sym (decided (c .before .before) ∙ miss _ (ne-eqb _ _ (c .before .if2 .taken))))
     (λ c κs. register-room _ _ (sym (c .before .register-refusal .ensures) ∙ (c .if2 .left)))
-    (λ c. ap (born (asked (c .before .before))) (c .grow .ensures) ∙ sym (decided (c .before .before) ∙ hit _ (eq-eqb _ _ (c .before .if2 .left)))))
+    (λ c.
+    ap (born (asked (c .before .before))) (c .grow .ensures)
+    ∙ sym (decided (c .before .before) ∙ hit _ (eq-eqb _ _ (c .before .if2 .left)))))

@@ -12,7 +12,8 @@ use Rattle.queue_decisions.proofs.pops.pop_due.Tie as tie
 
 -- what is asked, and what is due, by what is selected
 abbrev whole : tie.Start → Due
-whole s = popDue (s .args .issued) (s .args .failed) (s .args .selection) (s .args .found) (s .args .slots .now) (s .args .domain) (s .args .next)
+whole s =
+    popDue (s .args .issued) (s .args .failed) (s .args .selection) (s .args .found) (s .args .slots .now) (s .args .domain) (s .args .next)
 
 abbrev byOwn : tie.Start → Selection → Due
 byOwn s = dueBy (s .args .found) (s .args .slots .now) (s .args .domain) (s .args .next)

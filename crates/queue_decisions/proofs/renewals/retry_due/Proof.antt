@@ -28,7 +28,8 @@ retry-due-spec =
     (λ c κs. search needs)
     (λ c.
     let a = start (c .before) .args in
-    sym (due-not (a .failed) (a .slots .now) (a .next) (a .selection) (sym (c .before .retry-allowed .ensures) ∙ not-true _ (c .if1 .taken))))
+    sym (due-not (a .failed) (a .slots .now) (a .next) (a .selection)
+    (sym (c .before .retry-allowed .ensures) ∙ not-true _ (c .if1 .taken))))
     (λ c. search needs)
     (λ c. search needs)
     (λ c. sym (ap (byOwn (c .before .before .before)) (c .enum-told .given .1)))

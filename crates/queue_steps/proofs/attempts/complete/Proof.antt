@@ -37,7 +37,8 @@ decided : (c : tie.After-complete-refusal)
     ≡ asCompleted (c .before) (c .complete-refusal .result)
 unfolding completed
 decided c =
-    miss _ (negated (c .before .before .well-formed .ensures) (c .before .if1 .left)) ∙ ap (asCompleted (c .before)) (sym (c .complete-refusal .ensures))
+    miss _ (negated (c .before .before .well-formed .ensures) (c .before .if1 .left))
+    ∙ ap (asCompleted (c .before)) (sym (c .complete-refusal .ensures))
 
 -- where nothing refuses it: the ticket names one of the 64 slots
 fine : (c : tie.Else2) → refusal (c .before .before) ≡ 0
@@ -46,7 +47,8 @@ fine c = sym (c .before .complete-refusal .ensures) ∙ (c .if2 .left)
 in-place : (c : tie.Else2) → (start (c .before .before) .args .ticket) .token < 64
 in-place c =
     let e = c .before .before in
-    selected-below (asked e) _ (sound e) (out-selected (asked e .issued) (asked e .selection) _ (complete-fine _ _ (start e .args .ticket) _ _ (fine c) .out))
+    selected-below (asked e) _ (sound e)
+    (out-selected (asked e .issued) (asked e .selection) _ (complete-fine _ _ (start e .args .ticket) _ _ (fine c) .out))
 
 abbrev settled : Queue → CompleteAnswer
 settled q = record { answer = Settled; queue = q }

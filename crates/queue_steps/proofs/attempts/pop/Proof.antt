@@ -60,7 +60,8 @@ in-place c =
     let l : length (q .slots) ≡ 64 = search needs in
     let b : ticket c .token < length (q .slots) =
     due-below (q .slots) (q .domain) (q .next) (ticket c) (c .due2 .given .0 .1 .0) (c .due2 .given .0 .1 .1 .0) (q .selection)
-    (λ s e. let k : s .token < 64 = selected c s e in omega arith) (q .issued) (q .failed) (sym (decided (to-due c)) ∙ (c .due2 .given .1)) in
+    (λ s e. let k : s .token < 64 = selected c s e in omega arith) (q .issued) (q .failed)
+    (sym (decided (to-due c)) ∙ (c .due2 .given .1)) in
     omega arith
 
 pub pop-spec : {M : Type 1} → statement M

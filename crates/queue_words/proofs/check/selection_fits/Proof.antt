@@ -19,7 +19,9 @@ use Rattle.queue_words.proofs.check.selection_fits.Tie as tie
 abbrev asked-free : tie.Then1 → List ℕ
 asked-free c = c .before .before .args .w .now
 
-free : (c : tie.Then1) → selectionFits (queueOf (asked-free c)) ≡ marksFit false (markAt (word (asked-free c) atFailed)) (markAt (word (asked-free c) atIssued))
+free : (c : tie.Then1)
+    → selectionFits (queueOf (asked-free c))
+    ≡ marksFit false (markAt (word (asked-free c) atFailed)) (markAt (word (asked-free c) atIssued))
 free c = free-fits (asked-free c) (c .if1 .taken)
 
 -- ---- where a ticket is: the words that are asked

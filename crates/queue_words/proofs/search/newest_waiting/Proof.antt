@@ -45,11 +45,13 @@ newest-waiting-spec =
     (λ c. omega (arith, (c .before .loop .inv .0)))
     (λ c.
     let l = at (c .before) in
-    sym (down-found (asked l) (l .loop .left) (whole l) (l .loop .inv .0) (c .before .before .loop-test .taken) (l .loop .inv .1) (c .if1 .taken)))
+    sym (down-found (asked l) (l .loop .left) (whole l) (l .loop .inv .0) (c .before .before .loop-test .taken)
+    (l .loop .inv .1) (c .if1 .taken)))
     (λ c. omega arith)
     (λ c.
     let l = at (c .before) in (
       omega (arith, (l .loop .inv .0)),
-      down-pass (asked l) (l .loop .left) (whole l) (l .loop .inv .0) (c .before .before .loop-test .taken) (l .loop .inv .1) (c .if1 .left),
+      down-pass (asked l) (l .loop .left) (whole l) (l .loop .inv .0) (c .before .before .loop-test .taken) (l .loop .inv .1)
+          (c .if1 .left),
     ))
     (λ c. sym (down-none (asked (c .before)) (c .before .loop .left) (c .loop-test .left) (c .before .loop .inv .1))))

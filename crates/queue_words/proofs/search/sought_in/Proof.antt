@@ -22,4 +22,6 @@ sought-in-spec =
     (λ c. search needs)
     (λ c. let ws = c .before .before .args .w .now in sym (ap (by ws) (own-in ws (c .if1 .taken))))
     (λ c κs. search needs)
-    (λ c. let ws = c .before .before .before .args .w .now in (c .newest-waiting .ensures) ∙ sym (ap (by ws) (free-in ws (c .before .if1 .left)))))
+    (λ c.
+    let ws = c .before .before .before .args .w .now in
+    (c .newest-waiting .ensures) ∙ sym (ap (by ws) (free-in ws (c .before .if1 .left)))))

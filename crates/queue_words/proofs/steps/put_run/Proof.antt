@@ -34,7 +34,8 @@ put-run-spec =
     let a = l .before .args in (
       omega arith,
       rw (l .loop .inv .1)
-          (put-more (a .queue .now) (a .from) (a .values .now) (l .loop .i) (l .before .pre .0) (l .before .pre .1) (c .before .loop-test .taken)),
+          (put-more (a .queue .now) (a .from) (a .values .now) (l .loop .i) (l .before .pre .0) (l .before .pre .1)
+          (c .before .loop-test .taken)),
     ))
     (λ c.
     let l = c .before in

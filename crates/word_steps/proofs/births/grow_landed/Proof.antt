@@ -30,10 +30,12 @@ abbrev phaseIn : tie.After-grow → Phase
 phaseIn c = phaseAt (word (asked c) atPhase)
 
 put : (c : tie.After-grow)
-    → set (wordsOf (bornIn c)) atPhase (phaseNumber (next (phaseIn c) Land)) ≡ wordsOf (landedTo (queueOf (asked c)) (start c .args .number))
+    → set (wordsOf (bornIn c)) atPhase (phaseNumber (next (phaseIn c) Land))
+    ≡ wordsOf (landedTo (queueOf (asked c)) (start c .args .number))
 unfolding queueOf
 put c =
-    sym (phase-set (bornIn c) (grown-held (asked c) (start c .pre .0) (start c .args .number) (start c .pre .1) .slots) (next (phaseIn c) Land))
+    sym (phase-set (bornIn c) (grown-held (asked c) (start c .pre .0) (start c .args .number) (start c .pre .1) .slots)
+    (next (phaseIn c) Land))
 
 pub grow-landed-spec : {M : Type 1} → statement M
 grow-landed-spec =
@@ -46,5 +48,10 @@ grow-landed-spec =
     (λ c κs. search needs)
     (λ c. search needs)
     (λ c.
-    rw ((c .phase-number .ensures), (c .before .next-phase .ensures), (c .before .before .grow .ensures), (c .before .before .before .before .phase-at .ensures))
+    rw (
+      (c .phase-number .ensures),
+      (c .before .next-phase .ensures),
+      (c .before .before .grow .ensures),
+      (c .before .before .before .before .phase-at .ensures),
+    )
     (put (c .before .before))))

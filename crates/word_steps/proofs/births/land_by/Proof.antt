@@ -21,7 +21,8 @@ asked c = c .args .queue .now
 abbrev after : tie.Start → Queue
 after c = landedTo (queueOf (asked c)) (c .args .number)
 
-decided : (c : tie.Start) → landed (queueOf (asked c)) (c .args .number) ≡ bornBy (queueOf (asked c)) (c .args .number) (after c) (c .args .refusal)
+decided : (c : tie.Start)
+    → landed (queueOf (asked c)) (c .args .number) ≡ bornBy (queueOf (asked c)) (c .args .number) (after c) (c .args .refusal)
 decided c = land-by (asked c) (c .pre .0) (c .args .number) ∙ ap (bornBy (queueOf (asked c)) (c .args .number) (after c)) (sym (c .pre .1))
 
 -- where nothing refuses it

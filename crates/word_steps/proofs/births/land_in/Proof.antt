@@ -14,10 +14,12 @@ abbrev start : tie.After-land-refusal → tie.Start
 start c = c .before .before .before .before
 
 refuses : (c : tie.After-land-refusal)
-    → (c .land-refusal .result) ≡ landRefusal (start c .args .number) (phaseAt (word (start c .args .queue .now) atPhase)) (word (start c .args .queue .now) atCount)
+    → (c .land-refusal .result)
+    ≡ landRefusal (start c .args .number) (phaseAt (word (start c .args .queue .now) atPhase)) (word (start c .args .queue .now) atCount)
 refuses c =
     (c .land-refusal .ensures)
-    ∙ ap (λ (p : Phase). landRefusal (start c .args .number) p (word (start c .args .queue .now) atCount)) (c .before .before .phase-at .ensures)
+    ∙ ap (λ (p : Phase). landRefusal (start c .args .number) p (word (start c .args .queue .now) atCount))
+    (c .before .before .phase-at .ensures)
 
 pub land-in-spec : {M : Type 1} → statement M
 land-in-spec =

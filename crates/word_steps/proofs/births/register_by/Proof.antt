@@ -21,8 +21,10 @@ asked c = c .args .queue .now
 abbrev after : tie.Start → Queue
 after c = grown (queueOf (asked c)) (c .args .number)
 
-decided : (c : tie.Start) → registered (queueOf (asked c)) (c .args .number) ≡ bornBy (queueOf (asked c)) (c .args .number) (after c) (c .args .refusal)
-decided c = register-by (asked c) (c .pre .0) (c .args .number) ∙ ap (bornBy (queueOf (asked c)) (c .args .number) (after c)) (sym (c .pre .1))
+decided : (c : tie.Start)
+    → registered (queueOf (asked c)) (c .args .number) ≡ bornBy (queueOf (asked c)) (c .args .number) (after c) (c .args .refusal)
+decided c =
+    register-by (asked c) (c .pre .0) (c .args .number) ∙ ap (bornBy (queueOf (asked c)) (c .args .number) (after c)) (sym (c .pre .1))
 
 -- where nothing refuses it
 abbrev to1 : tie.After-grow → tie.Else1

@@ -26,7 +26,8 @@ start c = c .before .before
 
 own : (c : tie.After-due2)
     → popOn (asked (start c))
-    ≡ popExported (poppedAs (queueOf (asked (start c))) (Due.Of (c .due2 .given .0 .0) (c .due2 .given .0 .1 .0) (c .due2 .given .0 .1 .1 .0)))
+    ≡ popExported (poppedAs (queueOf (asked (start c)))
+    (Due.Of (c .due2 .given .0 .0) (c .due2 .given .0 .1 .0) (c .due2 .given .0 .1 .1 .0)))
 own c = due (start c) _ (c .due2 .given .1)
 
 pub pop-by-spec : {M : Type 1} → statement M
