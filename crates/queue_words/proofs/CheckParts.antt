@@ -58,7 +58,7 @@ module _ (ws : List ℕ) where
 
 -- ---- the clauses on the selection, as the words say it
 -- the ticket that the words hold
-abbrev ticketIn : List ℕ → Ticket
+abbrev pub ticketIn : List ℕ → Ticket
 ticketIn ws = ticketOf (word ws atTicketDomain) (word ws atTicketToken) (word ws atTicketAttempt)
 
 module _ (ws : List ℕ) where

@@ -13,7 +13,8 @@ use Rattle.choice.proofs.Ways.{pass, and-left, and-right}
 use Rattle.stage.proofs.Table.{phase-back}
 use Rattle.queue_record.specs.Record.{Sized}
 use Rattle.queue_record.specs.declared.record.Queue.{Queue}
-use Rattle.queue_words.specs.Layout.{atKind, atDomain, atNext, atSlots, atCount, atSelected, atTicketDomain, atTicketToken, atTicketAttempt, atFailed, atIssued, atPhase, atBindings, atBound, wordCount}
+use Rattle.queue_words.specs.Layout.{atKind, atDomain, atNext, atSlots, atCount, atSelected, atTicketDomain, atTicketToken, atTicketAttempt}
+use Rattle.queue_words.specs.Layout.{atFailed, atIssued, atPhase, atBindings, atBound, wordCount}
 use Rattle.queue_words.specs.Words.{word, kindAt, markAt, slotsIn, bindingsIn, selectionIn, marksEncode, ticketEncodes, wordsBehind, queueOf, wordsOf, encodes}
 use Rattle.queue_words.proofs.Parts.{kind-back, mark-back, selection-back, kind-again, mark-again, phase-again, selection-again, marks-encode, ticket-encodes}
 use Rattle.queue_words.proofs.Places.{word-behind}
@@ -27,7 +28,8 @@ module _ (ws : List ℕ) (l : length ws ≡ wordCount) where
   many j n e = sym (take-append-drop n (drop j ws)) ∙ ap (λ (r : List ℕ). take n (drop j ws) ++ r) (drop-drop n j ws ∙ e)
 
   apart : ws ≡ word ws atKind ∷ word ws atDomain ∷ word ws atNext ∷ (slotsIn ws
-      ++ (word ws atCount ∷ word ws atSelected ∷ word ws atTicketDomain ∷ word ws atTicketToken ∷ word ws atTicketAttempt ∷ word ws atFailed ∷ word ws atIssued ∷ word ws atPhase ∷ (bindingsIn ws
+      ++ (word ws atCount ∷ word ws atSelected ∷ word ws atTicketDomain ∷ word ws atTicketToken ∷ word ws atTicketAttempt
+      ∷ word ws atFailed ∷ word ws atIssued ∷ word ws atPhase ∷ (bindingsIn ws
       ++ (word ws atBound ∷ []))))
   apart =
       let end : drop wordCount ws ≡ [] = drop-of-length-le ws {i = wordCount} (omega arith) in

@@ -1,4 +1,5 @@
 -- Refused, or born with the stage moved
+use Prim.Native.Nat.{ℕ}
 use mathlib.Core.Path.{_≡_, sym, ap, _∙_}
 use borrow.Author.Tests.{eq-eqb, ne-eqb}
 use Rattle.choice.proofs.Ways.{hit, miss, negated}
@@ -10,17 +11,32 @@ use borrow.Author.Needs.{needs}
 use Rattle.queue_births.proofs.births.land.Statement.{statement}
 use Rattle.queue_births.proofs.births.land.Tie as tie
 
--- behind the decision: the record that is asked, and the call by the decided number
-abbrev asked : tie.After-land-refusal → Queue
-asked c = (c .before .before .before .args .q)
+-- behind the decision: the record that is asked, the undo number, and the call by the decided number
+abbrev start : tie.After-land-refusal → tie.Start
+start c = c .before .before .before
 
-decided : (c : tie.After-land-refusal) → landed (asked c) (c .before .before .before .args .number) ≡ bornBy (asked c) (c .before .before .before .args .number) (landedTo (asked c) (c .before .before .before .args .number)) (c .land-refusal .result)
+abbrev asked : tie.After-land-refusal → Queue
+asked c = start c .args .q
+
+abbrev number : tie.After-land-refusal → ℕ
+number c = start c .args .number
+
+decided : (c : tie.After-land-refusal)
+    → landed (asked c) (number c) ≡ bornBy (asked c) (number c) (landedTo (asked c) (number c)) (c .land-refusal .result)
 unfolding landed
-decided c = miss _ (negated (c .before .before .well-formed .ensures) (c .before .if1 .left)) ∙ ap (bornBy (asked c) (c .before .before .before .args .number) (landedTo (asked c) (c .before .before .before .args .number))) (sym (c .land-refusal .ensures))
+decided c =
+    miss _ (negated (c .before .before .well-formed .ensures) (c .before .if1 .left))
+    ∙ ap (bornBy (asked c) (number c) (landedTo (asked c) (number c))) (sym (c .land-refusal .ensures))
 
 -- behind the stores
-stored : (c : tie.After-move-to) → (c .move-to .result) ≡ landedTo (asked (c .before .before .before .before)) ((c .before .before .before .before) .before .before .before .args .number)
-stored c = (c .move-to .ensures) ∙ (ap (λ (b : Queue). withPhase b (c .before .next-phase .result)) (c .before .before .grow .ensures) ∙ ap (withPhase (grown (asked (c .before .before .before .before)) ((c .before .before .before .before) .before .before .before .args .number))) (c .before .next-phase .ensures))
+abbrev from : tie.After-move-to → tie.After-land-refusal
+from c = c .before .before .before .before
+
+stored : (c : tie.After-move-to) → (c .move-to .result) ≡ landedTo (asked (from c)) (number (from c))
+stored c =
+    (c .move-to .ensures)
+    ∙ (ap (λ (b : Queue). withPhase b (c .before .next-phase .result)) (c .before .before .grow .ensures)
+    ∙ ap (withPhase (grown (asked (from c)) (number (from c)))) (c .before .next-phase .ensures))
 
 pub land-spec : {M : Type 1} → statement M
 unfolding landed
@@ -36,4 +52,4 @@ land-spec =
     (λ c κs. land-room _ _ _ (sym (c .before .land-refusal .ensures) ∙ (c .if2 .left)))
     (λ c κs. search needs)
     (λ c κs. search needs)
-    (λ c. ap (born (asked (c .before .before .before .before))) (stored c) ∙ sym (decided (c .before .before .before .before) ∙ hit _ (eq-eqb _ _ (c .before .before .before .if2 .left)))))
+    (λ c. ap (born (asked (from c))) (stored c) ∙ sym (decided (from c) ∙ hit _ (eq-eqb _ _ (c .before .before .before .if2 .left)))))

@@ -1,11 +1,35 @@
 -- Test by test
-use mathlib.Core.Path.{sym, _∙_}
+use Prim.Native.Nat.{ℕ}
+use mathlib.Core.Path.{_≡_, sym, _∙_}
+use mathlib.Core.Bool.{not}
 use borrow.Author.Tests.{lt-ltb, le-ltb}
+use Rattle.choice.specs.Choice.{if_then_else_}
 use Rattle.choice.proofs.Ways.{hit, miss, negated}
-use Rattle.queue_decisions.specs.Answers.{completeRefusal}
+use Rattle.queue_record.specs.Refusals.{done, notOut, keptOnDone}
+use Rattle.queue_decisions.specs.Answers.{isOut, keepsOnDone, completeRefusal}
 use borrow.Author.Needs.{needs}
 use Rattle.queue_decisions.proofs.answers.complete_refusal.Statement.{statement}
 use Rattle.queue_decisions.proofs.answers.complete_refusal.Tie as tie
+
+-- ---- what is asked, and what is left of it behind each test
+abbrev whole : tie.Start → ℕ
+whole s = completeRefusal (s .args .issued) (s .args .selection) (s .args .ticket) (s .args .outcome) (s .args .kept)
+
+abbrev fromKept : tie.Start → ℕ
+fromKept s = if keepsOnDone (s .args .outcome) (s .args .kept) then keptOnDone else done
+
+abbrev fromOut : tie.Start → ℕ
+fromOut s = if not (isOut (s .args .issued) (s .args .selection) (s .args .ticket)) then notOut else fromKept s
+
+abbrev to1 : tie.Else2 → tie.Else1
+to1 c = c .before .before
+
+left1 : (c : tie.Else1) → whole (c .before) ≡ fromOut (c .before)
+unfolding completeRefusal
+left1 c = miss _ (le-ltb _ _ (c .if1 .left))
+
+left2 : (c : tie.Else2) → whole (to1 c .before) ≡ fromKept (to1 c .before)
+left2 c = left1 (to1 c) ∙ miss _ (negated (c .before .is-out .ensures) (c .if2 .left))
 
 pub complete-refusal-spec : {M : Type 1} → statement M
 unfolding completeRefusal
@@ -14,7 +38,7 @@ complete-refusal-spec =
     (tie.spec
     (λ c. sym (hit _ (lt-ltb _ _ (c .if1 .taken))))
     (λ c κs. search needs)
-    (λ c. sym (miss _ (le-ltb _ _ (c .before .before .if1 .left)) ∙ hit _ (negated (c .before .is-out .ensures) (c .if2 .taken))))
+    (λ c. sym (left1 (c .before .before) ∙ hit _ (negated (c .before .is-out .ensures) (c .if2 .taken))))
     (λ c κs. search needs)
-    (λ c. sym (miss _ (le-ltb _ _ (c .before .before .before .before .if1 .left)) ∙ (miss _ (negated (c .before .before .before .is-out .ensures) (c .before .before .if2 .left)) ∙ hit _ (sym (c .before .keeps-on-done .ensures) ∙ (c .if3 .taken)))))
-    (λ c. sym (miss _ (le-ltb _ _ (c .before .before .before .before .if1 .left)) ∙ (miss _ (negated (c .before .before .before .is-out .ensures) (c .before .before .if2 .left)) ∙ miss _ (sym (c .before .keeps-on-done .ensures) ∙ (c .if3 .left))))))
+    (λ c. sym (left2 (c .before .before) ∙ hit _ (sym (c .before .keeps-on-done .ensures) ∙ (c .if3 .taken))))
+    (λ c. sym (left2 (c .before .before) ∙ miss _ (sym (c .before .keeps-on-done .ensures) ∙ (c .if3 .left)))))

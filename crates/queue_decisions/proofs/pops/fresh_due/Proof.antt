@@ -10,12 +10,25 @@ use borrow.Author.Needs.{needs}
 use Rattle.queue_decisions.proofs.pops.fresh_due.Statement.{statement}
 use Rattle.queue_decisions.proofs.pops.fresh_due.Tie as tie
 
--- behind the slot's reading: what is due, by the number that was read there
-abbrev readBy : tie.After-slot-at → ℕ → Due
-readBy c number = freshBy (c .before .before .found .given .0 .0) number (c .before .before .before .before .before .args .domain) (c .before .before .before .before .before .args .next)
+-- behind the slots that are lent: what is due, by what was found
+abbrev start : tie.After-shared-slice-known → tie.Start
+start c = c .before
 
-read : (c : tie.After-slot-at) → freshDue (c .before .before .before .before .before .args .found) (c .before .before .before .before .before .args .slots .now) (c .before .before .before .before .before .args .domain) (c .before .before .before .before .before .args .next) ≡ readBy c (c .slot-at .result)
-read c = ap (λ (f : Found). freshDue f (c .before .before .before .before .before .args .slots .now) (c .before .before .before .before .before .args .domain) (c .before .before .before .before .before .args .next)) (c .before .before .found .given .1) ∙ ap (readBy c) (sym (c .slot-at .ensures))
+abbrev foundBy : tie.Start → Found → Due
+foundBy s f = freshDue f (s .args .slots .now) (s .args .domain) (s .args .next)
+
+-- behind the slot's reading: what is due, by the number that was read there
+abbrev to-known : tie.After-slot-at → tie.After-shared-slice-known
+to-known c = c .before .before .before .before
+
+abbrev asked : tie.After-slot-at → tie.Start
+asked c = start (to-known c)
+
+abbrev readBy : tie.After-slot-at → ℕ → Due
+readBy c number = freshBy (c .before .before .found .given .0 .0) number (asked c .args .domain) (asked c .args .next)
+
+read : (c : tie.After-slot-at) → foundBy (asked c) (asked c .args .found) ≡ readBy c (c .slot-at .result)
+read c = ap (foundBy (asked c)) (c .before .before .found .given .1) ∙ ap (readBy c) (sym (c .slot-at .ensures))
 
 pub fresh-due-spec : {M : Type 1} → statement M
 fresh-due-spec =
@@ -23,7 +36,7 @@ fresh-due-spec =
     (tie.spec
     (λ c. search needs)
     (λ c. search needs)
-    (λ c. sym (ap (λ (f : Found). freshDue f (c .before .before .before .args .slots .now) (c .before .before .before .args .domain) (c .before .before .before .args .next)) (c .enum-told .given .1)))
+    (λ c. sym (ap (foundBy (start (c .before .before))) (c .enum-told .given .1)))
     (λ c κs. search needs)
     (λ c. sym (read (c .before) ∙ hit _ (eq-eqb _ _ (c .if1 .taken))))
     (λ c. sym (read (c .before .before) ∙ (miss _ (ne-eqb _ _ (c .before .if1 .left)) ∙ hit _ (le-leb _ _ (c .if2 .taken)))))

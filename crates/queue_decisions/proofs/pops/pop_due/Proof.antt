@@ -10,23 +10,31 @@ use borrow.Author.Needs.{needs}
 use Rattle.queue_decisions.proofs.pops.pop_due.Statement.{statement}
 use Rattle.queue_decisions.proofs.pops.pop_due.Tie as tie
 
--- behind the two marks: what is due, and by what is selected
-abbrev asked : tie.Else2 → Due
-asked c = popDue (c .before .before .before .args .issued) (c .before .before .before .args .failed) (c .before .before .before .args .selection) (c .before .before .before .args .found) (c .before .before .before .args .slots .now) (c .before .before .before .args .domain) (c .before .before .before .args .next)
+-- what is asked, and what is due, by what is selected
+abbrev whole : tie.Start → Due
+whole s =
+    popDue (s .args .issued) (s .args .failed) (s .args .selection) (s .args .found) (s .args .slots .now) (s .args .domain) (s .args .next)
 
-abbrev byOwn : tie.Else2 → Selection → Due
-byOwn c s = dueBy (c .before .before .before .args .found) (c .before .before .before .args .slots .now) (c .before .before .before .args .domain) (c .before .before .before .args .next) s
+abbrev byOwn : tie.Start → Selection → Due
+byOwn s = dueBy (s .args .found) (s .args .slots .now) (s .args .domain) (s .args .next)
 
-unmarked : (c : tie.Else2) → asked c ≡ byOwn c (c .before .before .before .args .selection)
+-- behind the two marks
+abbrev start : tie.Else2 → tie.Start
+start c = c .before .before .before
+
+unmarked : (c : tie.Else2) {s : Selection} → start c .args .selection ≡ s → whole (start c) ≡ byOwn (start c) s
 unfolding popDue
-unmarked c = miss _ (c .before .if1 .left) ∙ miss _ (c .if2 .left)
+unmarked c e = miss _ (c .before .if1 .left) ∙ (miss _ (c .if2 .left) ∙ ap (byOwn (start c)) e)
 
 -- behind the reading of the ready ticket's slot
-abbrev readBy : tie.After-slot-at → ℕ → Due
-readBy c number = readyBy (c .before .before .selection .given .0 .0) number ((c .before .before .before .before) .before .before .before .args .next)
+abbrev asked : tie.After-slot-at → tie.Else2
+asked c = c .before .before .before .before
 
-ready : (c : tie.After-slot-at) → asked (c .before .before .before .before) ≡ readBy c (c .slot-at .result)
-ready c = unmarked (c .before .before .before .before) ∙ (ap (byOwn (c .before .before .before .before)) (c .before .before .selection .given .1) ∙ ap (readBy c) (sym (c .slot-at .ensures)))
+abbrev readBy : tie.After-slot-at → ℕ → Due
+readBy c number = readyBy (c .before .before .selection .given .0 .0) number (start (asked c) .args .next)
+
+ready : (c : tie.After-slot-at) → whole (start (asked c)) ≡ readBy c (c .slot-at .result)
+ready c = unmarked (asked c) (c .before .before .selection .given .1) ∙ ap (readBy c) (sym (c .slot-at .ensures))
 
 pub pop-due-spec : {M : Type 1} → statement M
 unfolding popDue
@@ -38,7 +46,7 @@ pop-due-spec =
     (λ c. search needs)
     (λ c. search needs)
     (λ c κs. search needs)
-    (λ c. (c .fresh-due .ensures) ∙ sym (unmarked (c .before .before .before) ∙ ap (byOwn (c .before .before .before)) (c .before .enum-told .given .1)))
+    (λ c. (c .fresh-due .ensures) ∙ sym (unmarked (c .before .before .before) (c .before .enum-told .given .1)))
     (λ c κs. search needs)
     (λ c. sym (ready (c .before) ∙ hit _ (eq-eqb _ _ (c .if3 .taken))))
     (λ c. sym (ready (c .before) ∙ miss _ (ne-eqb _ _ (c .if3 .left)))))

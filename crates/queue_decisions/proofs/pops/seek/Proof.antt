@@ -6,6 +6,10 @@ use borrow.Author.Needs.{needs}
 use Rattle.queue_decisions.proofs.pops.seek.Statement.{statement}
 use Rattle.queue_decisions.proofs.pops.seek.Tie as tie
 
+-- nothing is selected
+abbrev start : tie.After-enum-told → tie.Start
+start c = c .before .before .before
+
 pub seek-spec : {M : Type 1} → statement M
 seek-spec =
     tie.close
@@ -14,4 +18,6 @@ seek-spec =
     (λ c. search needs)
     (λ c. search needs)
     (λ c κs. search needs)
-    (λ c. (c .newest-place .ensures) ∙ sym (ap (λ (s : Selection). sought s ((c .before .before .before .before .args .slots .now))) (c .before .enum-told .given .1))))
+    (λ c.
+    (c .newest-place .ensures)
+    ∙ sym (ap (λ (s : Selection). sought s (start (c .before) .args .slots .now)) (c .before .enum-told .given .1))))

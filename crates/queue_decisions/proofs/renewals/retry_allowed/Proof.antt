@@ -1,11 +1,29 @@
 -- No without a ticket; else by its slot
 use Prim.Native.Nat.{ℕ}
-use mathlib.Core.Path.{sym, ap, _∙_}
+use mathlib.Core.Path.{_≡_, sym, ap, _∙_}
+use mathlib.Core.Bool.{Bool}
 use Rattle.queue_record.specs.declared.record.Selection.{Selection}
 use Rattle.queue_decisions.specs.Renewals.{mayRetry, allowedBy}
 use borrow.Author.Needs.{needs}
 use Rattle.queue_decisions.proofs.renewals.retry_allowed.Statement.{statement}
 use Rattle.queue_decisions.proofs.renewals.retry_allowed.Tie as tie
+
+-- whether it is allowed, by what is selected
+abbrev byOwn : tie.Start → Selection → Bool
+byOwn s = allowedBy (s .args .failed) (s .args .slots .now) (s .args .next)
+
+-- behind the reading of the ticket's slot
+abbrev to-known : tie.After-slot-at → tie.After-shared-slice-known
+to-known c = c .before .before .before .before
+
+abbrev start : tie.After-slot-at → tie.Start
+start c = to-known c .before
+
+own : (c : tie.After-slot-at)
+    → mayRetry (start c .args .failed) (c .slot-at .result) (start c .args .next) ≡ byOwn (start c) (start c .args .selection)
+own c =
+    ap (λ (n : ℕ). mayRetry (start c .args .failed) n (start c .args .next)) (c .slot-at .ensures)
+    ∙ sym (ap (byOwn (start c)) (c .before .before .selection .given .1))
 
 pub retry-allowed-spec : {M : Type 1} → statement M
 retry-allowed-spec =
@@ -13,11 +31,7 @@ retry-allowed-spec =
     (tie.spec
     (λ c. search needs)
     (λ c. search needs)
-    (λ c.
-    let a = (c .before .before .before .args) in
-    sym (ap (λ (s : Selection). allowedBy (a .failed) (a .slots .now) (a .next) s) (c .enum-told .given .1)))
+    (λ c. sym (ap (byOwn (c .before .before .before)) (c .enum-told .given .1)))
     (λ c κs. search needs)
     (λ c κs. search needs)
-    (λ c.
-    let a = (c .before .before .before .before .before .before .args) in
-    (c .may-retry .ensures) ∙ (ap (λ (n : ℕ). mayRetry (a .failed) n (a .next)) (c .before .slot-at .ensures) ∙ sym (ap (λ (s : Selection). allowedBy (a .failed) (a .slots .now) (a .next) s) (c .before .before .before .selection .given .1)))))
+    (λ c. (c .may-retry .ensures) ∙ own (c .before)))

@@ -9,9 +9,16 @@ use borrow.Author.Needs.{needs}
 use Rattle.queue_decisions.proofs.renewals.retry_due.Statement.{statement}
 use Rattle.queue_decisions.proofs.renewals.retry_due.Tie as tie
 
--- what is due, by what is selected
+-- behind the question: what is asked, and what is due, by what is selected
+abbrev start : tie.After-retry-allowed → tie.Start
+start c = c .before .before
+
 abbrev byOwn : tie.After-retry-allowed → Selection → Renewal
-byOwn c s = dueAgain (c .before .before .args .failed) (c .before .before .args .slots .now) (c .before .before .args .next) s
+byOwn c = dueAgain (start c .args .failed) (start c .args .slots .now) (start c .args .next)
+
+-- behind the ticket's reading
+abbrev to-asked : tie.After-known-told → tie.Else1
+to-asked c = c .before .before .before
 
 pub retry-due-spec : {M : Type 1} → statement M
 unfolding retryDue
@@ -20,11 +27,14 @@ retry-due-spec =
     (tie.spec
     (λ c κs. search needs)
     (λ c.
-    let a = (c .before .before .before .args) in
-    sym (due-not (a .failed) (a .slots .now) (a .next) (a .selection) (sym (c .before .retry-allowed .ensures) ∙ not-true _ (c .if1 .taken))))
+    let a = start (c .before) .args in
+    sym (due-not (a .failed) (a .slots .now) (a .next) (a .selection)
+    (sym (c .before .retry-allowed .ensures) ∙ not-true _ (c .if1 .taken))))
     (λ c. search needs)
     (λ c. search needs)
     (λ c. sym (ap (byOwn (c .before .before .before)) (c .enum-told .given .1)))
     (λ c.
-    let a = (c .before .before .before .before .before .before .args) in
-    sym (due-own (a .failed) (a .slots .now) (a .next) (a .selection) _ (c .before .selection .given .1) (sym (c .before .before .before .before .retry-allowed .ensures) ∙ not-false _ (c .before .before .before .if1 .left)))))
+    let e = to-asked c in
+    let a = start (e .before) .args in
+    sym (due-own (a .failed) (a .slots .now) (a .next) (a .selection) _ (c .before .selection .given .1)
+    (sym (e .before .retry-allowed .ensures) ∙ not-false _ (e .if1 .left)))))

@@ -1,11 +1,13 @@
 -- Refused, or what is due is handed out
 use Prim.Native.Nat.{_<_}
 use mathlib.Core.Path.{_≡_, sym, ap, _∙_}
-use mathlib.Core.Bool.{true}
+use mathlib.Core.Bool.{true, not}
 use lib.ListN.{length}
 use borrow.Author.Tests.{not-false}
 use Rattle.choice.proofs.Ways.{hit, miss, negated}
 use Rattle.queue_record.specs.WellFormed.{wellFormed}
+use Rattle.queue_record.specs.declared.record.Ticket.{Ticket}
+use Rattle.queue_record.specs.declared.record.Selection.the-variants.{Of}
 use Rattle.queue_record.specs.declared.record.Queue.{Queue}
 use Rattle.queue_record.specs.declared.search.Found.{Found}
 use Rattle.queue_record.proofs.Fit.{selected-below}
@@ -32,19 +34,34 @@ to1 c = (c .before .before .before)
 abbrev own : tie.After-pop-due → Queue
 own c = asked (to1 (c .before .before))
 
-decided : (c : tie.After-pop-due) → (c .pop-due .result) ≡ dueIn (own c)
-decided c = (c .pop-due .ensures) ∙ ap (λ (f : Found). popDue (own c .issued) (own c .failed) (own c .selection) f (own c .slots) (own c .domain) (own c .next)) (c .before .before .seek .ensures)
+abbrev byFound : Queue → Found → Due
+byFound q f = popDue (q .issued) (q .failed) (q .selection) f (q .slots) (q .domain) (q .next)
 
-due : (c : tie.After-pop-due) → popped (own c) ≡ poppedAs (own c) (c .pop-due .result)
+decided : (c : tie.After-pop-due) → (c .pop-due .result) ≡ dueIn (own c)
+decided c = (c .pop-due .ensures) ∙ ap (byFound (own c)) (c .before .before .seek .ensures)
+
+due : (c : tie.After-pop-due) {d : Due} → (c .pop-due .result) ≡ d → popped (own c) ≡ poppedAs (own c) d
 unfolding popped
-due c = miss _ (negated (to1 (c .before .before) .before .well-formed .ensures) (to1 (c .before .before) .if1 .left)) ∙ ap (poppedAs (own c)) (sym (decided c))
+due c h = miss _ (ap not (sound (to1 (c .before .before)))) ∙ ap (poppedAs (own c)) (sym (decided c) ∙ h)
 
 -- the ticket that is due names one of the 64 slots
-in-place : (c : tie.After-known-told2) → ((c .before .due2 .given .0 .0)) .token < 64
+abbrev to-due : tie.After-due2 → tie.After-pop-due
+to-due c = c .before .before
+
+abbrev ticket : tie.After-due2 → Ticket
+ticket c = c .due2 .given .0 .0
+
+selected : (c : tie.After-due2) (s : Ticket) → own (to-due c) .selection ≡ Of s → s .token < 64
+selected c s e = selected-below (own (to-due c)) s (sound (to1 (to-due c .before .before))) e
+
+in-place : (c : tie.After-due2) → ticket c .token < 64
 in-place c =
-    let q = own (c .before .before .before) in
+    let q = own (to-due c) in
     let l : length (q .slots) ≡ 64 = search needs in
-    let b : ((c .before .due2 .given .0 .0)) .token < length (q .slots) = due-below (q .slots) (q .domain) (q .next) ((c .before .due2 .given .0 .0)) ((c .before .due2 .given .0 .1 .0)) ((c .before .due2 .given .0 .1 .1 .0)) (q .selection) (λ s e. let k : s .token < 64 = selected-below q s (sound (to1 (c .before .before .before .before .before))) e in omega arith) (q .issued) (q .failed) (sym (decided (c .before .before .before)) ∙ (c .before .due2 .given .1)) in
+    let b : ticket c .token < length (q .slots) =
+    due-below (q .slots) (q .domain) (q .next) (ticket c) (c .due2 .given .0 .1 .0) (c .due2 .given .0 .1 .1 .0) (q .selection)
+    (λ s e. let k : s .token < 64 = selected c s e in omega arith) (q .issued) (q .failed)
+    (sym (decided (to-due c)) ∙ (c .due2 .given .1)) in
     omega arith
 
 pub pop-spec : {M : Type 1} → statement M
@@ -64,7 +81,7 @@ pop-spec =
     (λ c. search needs)
     (λ c κs. search needs)
     (λ c. search needs)
-    (λ c κs. in-place c)
-    (λ c. (c .pop-nothing .ensures) ∙ sym (due (c .before .before .before) ∙ ap (poppedAs (own (c .before .before .before))) (c .before .enum-told .given .1)))
-    (λ c. (c .pop-refused2 .ensures) ∙ sym (due (c .before .before .before .before) ∙ ap (poppedAs (own (c .before .before .before .before))) (c .before .before .due .given .1)))
-    (λ c. (c .hand-out .ensures) ∙ sym (due (c .before .before .before .before) ∙ ap (poppedAs (own (c .before .before .before .before))) (c .before .before .due2 .given .1))))
+    (λ c κs. in-place (c .before))
+    (λ c. (c .pop-nothing .ensures) ∙ sym (due (c .before .before .before) (c .before .enum-told .given .1)))
+    (λ c. (c .pop-refused2 .ensures) ∙ sym (due (c .before .before .before .before) (c .before .before .due .given .1)))
+    (λ c. (c .hand-out .ensures) ∙ sym (due (to-due (c .before .before)) (c .before .before .due2 .given .1))))

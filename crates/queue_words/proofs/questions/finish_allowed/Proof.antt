@@ -15,14 +15,25 @@ use Rattle.queue_words.proofs.questions.finish_allowed.Statement.{state
 use Rattle.queue_words.proofs.questions.finish_allowed.Tie as tie
 
 -- behind the reading of the phase: the words that are asked, and the bindings that they lend
+abbrev start : tie.After-phase-at → tie.Start
+start c = c .before .before .before .before
+
 abbrev asked : tie.After-phase-at → List ℕ
-asked c = (c .before .before .before .before .args .w .now)
+asked c = start c .args .w .now
+
+abbrev target : tie.After-phase-at → List ℕ
+target c = start c .args .target .now
 
 abbrev lent : tie.After-phase-at → List ℕ
 lent c = take (atBindings + word (asked c) atBound - atBindings) (drop atBindings (asked c))
 
-own : (c : tie.After-phase-at) → finishable (c .before .before .selection-in .result) (c .phase-at .result) (c .before .before .before .before .args .target .now) (lent c) ≡ finishable (selectionIn (asked c)) (phaseAt (word (asked c) atPhase)) (c .before .before .before .before .args .target .now) (committed (queueOf (asked c)))
-own c = ap (λ (x : Selection). finishable x (c .phase-at .result) (c .before .before .before .before .args .target .now) (lent c)) (c .before .before .selection-in .ensures) ∙ (ap (λ (p : Phase). finishable (selectionIn (asked c)) p (c .before .before .before .before .args .target .now) (lent c)) (c .phase-at .ensures) ∙ ap (finishable (selectionIn (asked c)) (phaseAt (word (asked c) atPhase)) (c .before .before .before .before .args .target .now)) (committed-words (asked c) (c .before .before .before .before .pre)))
+own : (c : tie.After-phase-at)
+    → finishable (c .before .before .selection-in .result) (c .phase-at .result) (target c) (lent c)
+    ≡ finishable (selectionIn (asked c)) (phaseAt (word (asked c) atPhase)) (target c) (committed (queueOf (asked c)))
+own c =
+    ap (λ (x : Selection). finishable x (c .phase-at .result) (target c) (lent c)) (c .before .before .selection-in .ensures)
+    ∙ (ap (λ (p : Phase). finishable (selectionIn (asked c)) p (target c) (lent c)) (c .phase-at .ensures)
+    ∙ ap (finishable (selectionIn (asked c)) (phaseAt (word (asked c) atPhase)) (target c)) (committed-words (asked c) (start c .pre)))
 
 pub finish-allowed-spec : {M : Type 1} → statement M
 finish-allowed-spec =

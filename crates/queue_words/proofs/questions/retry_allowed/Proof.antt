@@ -1,6 +1,8 @@
 -- By the words' own selection
+use Prim.Native.Nat.{ℕ}
 use mathlib.Core.Path.{_≡_, ap, _∙_}
 use mathlib.Core.Bool.{Bool}
+use mathlib.Core.List.{List}
 use Rattle.queue_record.specs.declared.record.Selection.{Selection}
 use Rattle.queue_decisions.specs.Renewals.{allowedBy}
 use Rattle.queue_steps.specs.Attempts.{retryAllowed}
@@ -10,11 +12,14 @@ use borrow.Author.Needs.{needs}
 use Rattle.queue_words.proofs.questions.retry_allowed.Statement.{statement}
 use Rattle.queue_words.proofs.questions.retry_allowed.Tie as tie
 
--- behind the words that are lent
-abbrev byOwn : tie.After-words → Selection → Bool
-byOwn c s = allowedBy (markAt (word (c .before .before .args .w .now) atFailed)) (slotsIn (c .before .before .args .w .now)) (word (c .before .before .args .w .now) atNext) s
+-- behind the words that are lent: the words that are asked
+abbrev asked : tie.After-words → List ℕ
+asked c = c .before .before .args .w .now
 
-own : (c : tie.After-words) → byOwn c (c .before .selection-in .result) ≡ retryAllowed (queueOf (c .before .before .args .w .now)) (selectionIn (c .before .before .args .w .now))
+abbrev byOwn : tie.After-words → Selection → Bool
+byOwn c s = allowedBy (markAt (word (asked c) atFailed)) (slotsIn (asked c)) (word (asked c) atNext) s
+
+own : (c : tie.After-words) → byOwn c (c .before .selection-in .result) ≡ retryAllowed (queueOf (asked c)) (selectionIn (asked c))
 unfolding queueOf
 own c = ap (byOwn c) (c .before .selection-in .ensures)
 

@@ -6,6 +6,10 @@ use borrow.Author.Needs.{needs}
 use Rattle.queue_words.proofs.questions.target_matches.Statement.{statement}
 use Rattle.queue_words.proofs.questions.target_matches.Tie as tie
 
+-- the start, as seen from where the part is lent
+abbrev start : tie.After-same-set-arg → tie.Start
+start c = c .before .before .before .before
+
 pub target-matches-spec : {M : Type 1} → statement M
 target-matches-spec =
     tie.close
@@ -16,4 +20,6 @@ target-matches-spec =
     (λ c. search needs)
     (λ c. search needs)
     (λ c κs. search needs)
-    (λ c. (c .same-set .ensures .0) ∙ ap (sameSet (c .before .before .before .before .before .args .target .now)) (committed-words (c .before .before .before .before .before .args .w .now) (c .before .before .before .before .before .pre))))
+    (λ c.
+    let s = start (c .before) in
+    (c .same-set .ensures .0) ∙ ap (sameSet (s .args .target .now)) (committed-words (s .args .w .now) (s .pre))))

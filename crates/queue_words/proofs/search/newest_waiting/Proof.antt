@@ -1,7 +1,8 @@
 -- What lies behind the place that is reached stays 0
-use Prim.Native.Nat.{_≤_}
+use Prim.Native.Nat.{ℕ, _≤_}
 use mathlib.Core.Path.{_≡_, sym}
 use mathlib.Core.Bool.{true}
+use mathlib.Core.List.{List}
 use native.Mathlib.Omega.{arith}
 use borrow.Author.Needs.{needs}
 use lib.ListN.{length}
@@ -19,6 +20,17 @@ Inv-loop w left₀ left = (left ≤ 64) × (restZero left (slotsIn w) ≡ true)
 abbrev μ-loop : tie.MeasureT-loop
 μ-loop w left₀ left = left
 
+-- ---- in the loop: the words that are asked, and how many they are
+abbrev asked : tie.At-loop Inv-loop μ-loop → List ℕ
+asked c = c .before .before .args .w .now
+
+whole : (c : tie.At-loop Inv-loop μ-loop) → length (asked c) ≡ wordCount
+whole c = sound-length (asked c) (c .before .before .pre)
+
+-- behind the reading of the slot
+abbrev at : tie.After-if12 Inv-loop μ-loop → tie.At-loop Inv-loop μ-loop
+at c = c .before .before
+
 pub newest-waiting-spec : {M : Type 1} → statement M
 newest-waiting-spec =
     tie.close
@@ -32,10 +44,14 @@ newest-waiting-spec =
     (λ c. omega (arith, (c .before .loop .inv .0)))
     (λ c. omega (arith, (c .before .loop .inv .0)))
     (λ c.
-    let a = c .before .before .before .before .before .args in
-    let l : length (a .w .now) ≡ wordCount = sound-length (a .w .now) (c .before .before .before .before .before .pre) in sym (down-found (a .w .now) (c .before .before .before .loop .left) l (c .before .before .before .loop .inv .0) (c .before .before .loop-test .taken) (c .before .before .before .loop .inv .1) (c .if1 .taken)))
+    let l = at (c .before) in
+    sym (down-found (asked l) (l .loop .left) (whole l) (l .loop .inv .0) (c .before .before .loop-test .taken)
+    (l .loop .inv .1) (c .if1 .taken)))
     (λ c. omega arith)
     (λ c.
-    let a = c .before .before .before .before .before .args in
-    let l : length (a .w .now) ≡ wordCount = sound-length (a .w .now) (c .before .before .before .before .before .pre) in (omega (arith, (c .before .before .before .loop .inv .0)), down-pass (a .w .now) (c .before .before .before .loop .left) l (c .before .before .before .loop .inv .0) (c .before .before .loop-test .taken) (c .before .before .before .loop .inv .1) (c .if1 .left)))
-    (λ c. sym (down-none (c .before .before .before .args .w .now) (c .before .loop .left) (c .loop-test .left) (c .before .loop .inv .1))))
+    let l = at (c .before) in (
+      omega (arith, (l .loop .inv .0)),
+      down-pass (asked l) (l .loop .left) (whole l) (l .loop .inv .0) (c .before .before .loop-test .taken) (l .loop .inv .1)
+          (c .if1 .left),
+    ))
+    (λ c. sym (down-none (asked (c .before)) (c .before .loop .left) (c .loop-test .left) (c .before .loop .inv .1))))

@@ -14,4 +14,7 @@ put-phase-spec =
     (tie.spec
     (λ c κs. search needs)
     (λ c. search needs)
-    (λ c. ap (set (c .before .args .queue .now) atPhase) (c .phase-number .ensures) ∙ sym (hold-phase (held (c .before .args .queue .now) (c .before .pre)) (c .before .args .phase) .words)))
+    (λ c.
+    let s = c .before in
+    ap (set (s .args .queue .now) atPhase) (c .phase-number .ensures)
+    ∙ sym (hold-phase (held (s .args .queue .now) (s .pre)) (s .args .phase) .words)))

@@ -29,5 +29,15 @@ put-run-spec =
     (λ c. omega (arith, (c .before .before .before .pre .1)))
     (λ c. search needs)
     (λ c. omega arith)
-    (λ c. (omega arith, rw (c .before .before .loop .inv .1) (put-more (c .before .before .before .args .queue .now) (c .before .before .before .args .from) (c .before .before .before .args .values .now) (c .before .before .loop .i) (c .before .before .before .pre .0) (c .before .before .before .pre .1) (c .before .loop-test .taken))))
-    (λ c. (c .before .loop .inv .1) ∙ put-all (c .before .before .args .queue .now) (c .before .before .args .from) (c .before .before .args .values .now) (c .before .loop .i) (c .before .loop .inv .0) (c .loop-test .left)))
+    (λ c.
+    let l = c .before .before in
+    let a = l .before .args in (
+      omega arith,
+      rw (l .loop .inv .1)
+          (put-more (a .queue .now) (a .from) (a .values .now) (l .loop .i) (l .before .pre .0) (l .before .pre .1)
+          (c .before .loop-test .taken)),
+    ))
+    (λ c.
+    let l = c .before in
+    let a = l .before .args in
+    (l .loop .inv .1) ∙ put-all (a .queue .now) (a .from) (a .values .now) (l .loop .i) (l .loop .inv .0) (c .loop-test .left)))

@@ -6,6 +6,7 @@ use borrow.Author.Tests.{eq-eqb, ne-eqb}
 use Rattle.choice.proofs.Ways.{hit, miss}
 use Rattle.queue_record.specs.Refusals.{done}
 use Rattle.queue_steps.specs.Attempts.{completedBy, completed}
+use Rattle.queue_steps.specs.declared.attempts.CompleteAnswer.{CompleteAnswer}
 use Rattle.queue_words.specs.Words.{queueOf}
 use Rattle.queue_words.specs.Exported.{exported, answerOf, refusedOn, onRecord, completeExported}
 use Rattle.queue_words.proofs.OnWords.{sound-on, same-words}
@@ -18,9 +19,18 @@ use Rattle.word_steps.proofs.complete.complete_by.Tie as tie
 abbrev asked : tie.Start → List ℕ
 asked c = c .args .queue .now
 
-decided : (c : tie.Start) → onRecord (asked c) (c .args .kept) (completeExported (completed (queueOf (asked c)) (c .args .ticket) (c .args .outcome) (c .args .kept))) ≡ completeExported (completedBy (queueOf (asked c)) (c .args .ticket) (c .args .outcome) (c .args .kept) (c .args .refusal))
+abbrev asCompleted : tie.Start → ℕ → CompleteAnswer
+asCompleted c = completedBy (queueOf (asked c)) (c .args .ticket) (c .args .outcome) (c .args .kept)
+
+decided : (c : tie.Start)
+    → onRecord (asked c) (c .args .kept)
+    (completeExported (completed (queueOf (asked c)) (c .args .ticket) (c .args .outcome) (c .args .kept)))
+    ≡ completeExported (asCompleted c (c .args .refusal))
 unfolding queueOf
-decided c = sound-on (asked c) (c .pre .0) (c .args .kept) _ ∙ ap completeExported (complete-by (asked c) (c .pre .0) (c .args .ticket) (c .args .outcome) (c .args .kept) ∙ ap (completedBy (queueOf (asked c)) (c .args .ticket) (c .args .outcome) (c .args .kept)) (sym (c .pre .1)))
+decided c =
+    sound-on (asked c) (c .pre .0) (c .args .kept) _
+    ∙ ap completeExported (complete-by (asked c) (c .pre .0) (c .args .ticket) (c .args .outcome) (c .args .kept)
+    ∙ ap (asCompleted c) (sym (c .pre .1)))
 
 pub complete-by-spec : {M : Type 1} → statement M
 unfolding queueOf
@@ -29,8 +39,15 @@ complete-by-spec =
     (tie.spec
     (λ c.
     let s = (c .before .before) in
-    sym (decided s ∙ (ap completeExported (miss _ (ne-eqb _ _ (c .before .if1 .taken))) ∙ ap (refusedOn _ (s .args .kept)) (same-words (asked s) (s .pre .0)))))
+    sym (decided s ∙ (ap completeExported (miss _ (ne-eqb _ _ (c .before .if1 .taken)))
+    ∙ ap (refusedOn _ (s .args .kept)) (same-words (asked s) (s .pre .0)))))
     (λ c κs.
-    let s = (c .before .before) in
-    (s .pre .0, settle-place (asked s) (s .pre .0) (s .args .ticket) (s .args .outcome) (s .args .kept) (sym (s .pre .1) ∙ (c .before .if1 .left))))
-    (λ c. ap (exported done (answerOf 1 0)) (c .before .settle .ensures) ∙ sym (decided (c .before .before .before .before) ∙ ap completeExported (hit _ (eq-eqb _ _ (c .before .before .before .if1 .left))))))
+    let s = (c .before .before) in (
+      s .pre .0,
+      settle-place (asked s) (s .pre .0) (s .args .ticket) (s .args .outcome) (s .args .kept) (sym (s .pre .1)
+          ∙ (c .before .if1 .left)),
+    ))
+    (λ c.
+    let e = c .before .before .before in
+    ap (exported done (answerOf 1 0)) (c .before .settle .ensures)
+    ∙ sym (decided (e .before) ∙ ap completeExported (hit _ (eq-eqb _ _ (e .if1 .left))))))

@@ -18,4 +18,6 @@ refusal-in-spec =
     (λ c κs. search needs)
     (λ c.
     let a = (c .before .before .before .args) in
-    (c .complete-refusal .ensures) ∙ ap (λ (s : Selection). completeRefusal (markAt (word (a .w .now) atIssued)) s (a .ticket) (a .outcome) (a .kept)) (c .before .selection-in .ensures)))
+    (c .complete-refusal .ensures)
+    ∙ ap (λ (s : Selection). completeRefusal (markAt (word (a .w .now) atIssued)) s (a .ticket) (a .outcome) (a .kept))
+    (c .before .selection-in .ensures)))

@@ -18,11 +18,15 @@ abbrev asked : tie.After-sought-in → List ℕ
 asked c = (c .before .before .args .w .now)
 
 abbrev byOwn : tie.After-sought-in → Selection → Found → Due
-byOwn c s f = popDue (markAt (word (asked c) atIssued)) (markAt (word (asked c) atFailed)) s f (slotsIn (asked c)) (word (asked c) atDomain) (word (asked c) atNext)
+byOwn c s f =
+    popDue (markAt (word (asked c) atIssued)) (markAt (word (asked c) atFailed)) s f (slotsIn (asked c))
+    (word (asked c) atDomain) (word (asked c) atNext)
 
 own : (c : tie.After-sought-in) → byOwn c (c .before .selection-in .result) (c .sought-in .result) ≡ dueIn (queueOf (asked c))
 unfolding queueOf
-own c = ap (λ (s : Selection). byOwn c s (c .sought-in .result)) (c .before .selection-in .ensures) ∙ ap (byOwn c (selectionIn (asked c))) (c .sought-in .ensures)
+own c =
+    ap (λ (s : Selection). byOwn c s (c .sought-in .result)) (c .before .selection-in .ensures)
+    ∙ ap (byOwn c (selectionIn (asked c))) (c .sought-in .ensures)
 
 -- behind the words that are lent
 abbrev searched : tie.After-words → tie.After-sought-in

@@ -20,4 +20,6 @@ issue-spec =
     (λ c. search needs)
     (λ c.
     let a = (c .before .before .args) in
-    rw (c .select .ensures) (sym (hold-issued (hold-next (hold-slot (hold-selection (held (a .queue .now) (c .before .before .pre .0)) (Of (a .ticket))) (a .ticket .token) 0 (c .before .before .pre .1)) (a .next)) true .words))))
+    let selected = hold-selection (held (a .queue .now) (c .before .before .pre .0)) (Of (a .ticket)) in
+    rw (c .select .ensures) (sym (hold-issued (hold-next (hold-slot selected (a .ticket .token) 0 (c .before .before .pre .1))
+    (a .next)) true .words))))

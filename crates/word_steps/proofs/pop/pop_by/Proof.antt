@@ -20,6 +20,16 @@ asked c = c .args .queue .now
 due : (c : tie.Start) (d : Due) → c .args .due ≡ d → popOn (asked c) ≡ popExported (poppedAs (queueOf (asked c)) d)
 due c d e = pop-on (asked c) (c .pre .0) ∙ ap (λ (x : Due). popExported (poppedAs (queueOf (asked c)) x)) (sym (c .pre .1) ∙ e)
 
+-- where a ticket is due
+abbrev start : tie.After-due2 → tie.Start
+start c = c .before .before
+
+own : (c : tie.After-due2)
+    → popOn (asked (start c))
+    ≡ popExported (poppedAs (queueOf (asked (start c)))
+    (Due.Of (c .due2 .given .0 .0) (c .due2 .given .0 .1 .0) (c .due2 .given .0 .1 .1 .0)))
+own c = due (start c) _ (c .due2 .given .1)
+
 pub pop-by-spec : {M : Type 1} → statement M
 pop-by-spec =
     tie.close
@@ -28,7 +38,7 @@ pop-by-spec =
     (λ c. search needs)
     (λ c. search needs)
     (λ c κs.
-    let s = (c .before .before .before .before) in
+    let s = start (c .before .before) in
     (s .pre .0, due-place (asked s) (s .pre .0) _ _ _ (sym (s .pre .1) ∙ (c .before .before .due2 .given .1))))
     (λ c.
     let s = (c .before .before .before) in
@@ -36,6 +46,4 @@ pop-by-spec =
     (λ c.
     let s = (c .before .before .before .before) in
     sym (due s _ (c .before .before .due .given .1) ∙ ap (refusedOn _ 0) (same-words (asked s) (s .pre .0))))
-    (λ c.
-    let s = (c .before .before .before .before .before) .before in
-    rw ((c .before .issue .ensures)) (sym (due s _ (c .before .before .before .before .due2 .given .1)))))
+    (λ c. rw ((c .before .issue .ensures)) (sym (own (c .before .before .before .before)))))

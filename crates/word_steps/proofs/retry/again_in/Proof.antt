@@ -1,5 +1,7 @@
 -- By the words' own selection
+use Prim.Native.Nat.{ℕ}
 use mathlib.Core.Path.{_≡_, ap, _∙_}
+use mathlib.Core.List.{List}
 use Rattle.queue_record.specs.declared.record.Selection.{Selection}
 use Rattle.queue_decisions.specs.Renewals.{retryDue}
 use Rattle.queue_decisions.specs.declared.renewals.Renewal.{Renewal}
@@ -10,11 +12,14 @@ use borrow.Author.Needs.{needs}
 use Rattle.word_steps.proofs.retry.again_in.Statement.{statement}
 use Rattle.word_steps.proofs.retry.again_in.Tie as tie
 
--- behind the words that are lent
-abbrev byOwn : tie.After-words → Selection → Renewal
-byOwn c s = retryDue (markAt (word (c .before .before .args .w .now) atFailed)) s (slotsIn (c .before .before .args .w .now)) (word (c .before .before .args .w .now) atNext)
+-- behind the words that are lent: the words that are asked
+abbrev asked : tie.After-words → List ℕ
+asked c = c .before .before .args .w .now
 
-own : (c : tie.After-words) → byOwn c (c .before .selection-in .result) ≡ dueAgainIn (queueOf (c .before .before .args .w .now))
+abbrev byOwn : tie.After-words → Selection → Renewal
+byOwn c s = retryDue (markAt (word (asked c) atFailed)) s (slotsIn (asked c)) (word (asked c) atNext)
+
+own : (c : tie.After-words) → byOwn c (c .before .selection-in .result) ≡ dueAgainIn (queueOf (asked c))
 unfolding queueOf
 own c = ap (byOwn c) (c .before .selection-in .ensures)
 

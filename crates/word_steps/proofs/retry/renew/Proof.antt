@@ -19,4 +19,5 @@ renew-spec =
     (λ c. search needs)
     (λ c.
     let a = (c .before .before .before .args) in
-    rw (c .before .select .ensures) (sym (hold-failed (hold-next (hold-selection (held (a .queue .now) (c .before .before .before .pre .0)) (Of (a .ticket))) (a .ticket .attempt + 1)) false .words))))
+    let selected = hold-selection (held (a .queue .now) (c .before .before .before .pre .0)) (Of (a .ticket)) in
+    rw (c .before .select .ensures) (sym (hold-failed (hold-next selected (a .ticket .attempt + 1)) false .words))))

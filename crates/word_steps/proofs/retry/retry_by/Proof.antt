@@ -19,6 +19,14 @@ asked c = c .args .queue .now
 due : (c : tie.Start) (d : Renewal) → c .args .again ≡ d → retryOn (asked c) ≡ retryExported (retriedAs (queueOf (asked c)) d)
 due c d e = retry-on (asked c) (c .pre .0) ∙ ap (λ (x : Renewal). retryExported (retriedAs (queueOf (asked c)) x)) (sym (c .pre .1) ∙ e)
 
+-- where one is due
+abbrev start : tie.After-again2 → tie.Start
+start c = c .before .before
+
+own : (c : tie.After-again2)
+    → retryOn (asked (start c)) ≡ retryExported (retriedAs (queueOf (asked (start c))) (Renewal.Of (c .again2 .given .0 .0)))
+own c = due (start c) _ (c .again2 .given .1)
+
 pub retry-by-spec : {M : Type 1} → statement M
 retry-by-spec =
     tie.close
@@ -26,11 +34,9 @@ retry-by-spec =
     (λ c. search needs)
     (λ c. search needs)
     (λ c κs.
-    let s = (c .before .before .before .before) in
+    let s = start (c .before .before) in
     (s .pre .0, again-low (asked s) _ (sym (s .pre .1) ∙ (c .before .before .again2 .given .1))))
     (λ c.
     let s = (c .before .before .before .before) in
     sym (due s _ (c .before .before .again .given .1) ∙ ap (refusedOn _ 0) (same-words (asked s) (s .pre .0))))
-    (λ c.
-    let s = (c .before .before .before .before .before) .before in
-    rw ((c .before .renew .ensures)) (sym (due s _ (c .before .before .before .before .again2 .given .1)))))
+    (λ c. rw ((c .before .renew .ensures)) (sym (own (c .before .before .before .before)))))
