@@ -1,4 +1,5 @@
--- A choice by a test, and a test that is asked under a condition
+-- A choice by a test, a test that is asked under a condition, and a test as a number
+use Prim.Native.Nat.{ℕ}
 use mathlib.Core.Bool.{Bool, true, false}
 
 infixr 1 if_then_else_
@@ -10,3 +11,8 @@ if false then a else b = b
 abbrev pub implies : Bool → Bool → Bool
 implies true b = b
 implies false b = true
+
+-- yes is 1 and no is 0
+abbrev pub bit : Bool → ℕ
+bit true = 1
+bit false = 0

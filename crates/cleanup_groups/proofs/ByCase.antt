@@ -21,7 +21,7 @@ use Rattle.queue_record.specs.declared.openings.OpenAnswer.{OpenAnswer}
 use Rattle.queue_record.proofs.Opened.{scope-well-formed, scope-sized, iterator-well-formed, iterator-sized}
 use Rattle.queue_questions.specs.Questions.{matches}
 use Rattle.cleanup_queue.specs.Runs as queue
-use Rattle.group_record.specs.Record.{queueAt, freePlace, withPlace, withQueue, opening, sealing}
+use Rattle.group_record.specs.Record.{queueAt, freePlace, withPlace, withQueue, withOpened, sealing}
 use Rattle.group_asking.specs.Questions.{drained}
 use Rattle.group_asking.specs.Scan.{firstYes, someYes}
 use Rattle.group_check.specs.WellFormed.{ids, wellGrouped}
@@ -30,9 +30,9 @@ use Rattle.group_record.specs.declared.record.Groups.{Groups}
 use Rattle.group_asking.specs.declared.questions.Question.the-variants.{Free, Holds, Undrained}
 use Rattle.group_check.specs.declared.ids.Spot.{Spot}
 use Rattle.group_survey.specs.Whole.{retriesAll}
-use Rattle.group_lives.specs.Openings.{unsealed, roomAt, roomOf, nextDomain, refusedAdd, addedAt, added, addedQueue, addedOpening, addedScope, addedIterator}
+use Rattle.group_openings.specs.Openings.{unsealed, roomAt, roomOf, nextDomain, refusedAdd, addedAt, added, addedQueue, addedOpening, addedScope, addedIterator}
 use Rattle.group_endings.specs.Endings.{refusedClose, removedAt, removed, sealedBy, sealedIn}
-use Rattle.group_lives.specs.declared.openings.AddAnswer.{AddAnswer}
+use Rattle.group_openings.specs.declared.openings.AddAnswer.{AddAnswer}
 use Rattle.group_endings.specs.declared.endings.Closed.the-variants.{Done}
 use Rattle.group_endings.specs.declared.endings.CloseAnswer.{CloseAnswer}
 use Rattle.group_steps.specs.Births.{registeredAt, registeredIn, landedAt, landedIn}
@@ -41,7 +41,7 @@ use Rattle.group_stages.specs.Stages.{admittedAt, admittedIn, admittedAtWithout
 use Rattle.group_rounds.specs.Rounds.{allRetried, retriedAll}
 use Rattle.group_rounds.specs.declared.rounds.RetryAllAnswer.{RetryAllAnswer}
 use Rattle.cleanup_groups.specs.Promises.{Numbered}
-use Rattle.cleanup_groups.specs.Runs.{Call, addScope, addIterator, remove, seal, register, land, pop, complete, retry, admit, admitWithout, end, cancel, retryAll, after}
+use Rattle.cleanup_groups.specs.Runs.{GroupCall, addScope, addIterator, remove, seal, register, land, pop, complete, retry, admit, admitWithout, end, cancel, retryAll, groupsAfter}
 
 -- by where an id is: refused, or at a place
 pub by-spot : {A : Type 0} (P : A → Type 0) (f : Spot → A) (s : Spot) → ((n : ℕ) → s ≡ Spot.Refused n → P (f (Spot.Refused n))) → ((i : ℕ) → s ≡ Spot.At i → P (f (Spot.At i))) → P (f s)
@@ -116,11 +116,11 @@ pub record New (g : Groups) (q : Queue) : Type 0 where
 module _ (P : Groups → Type 0) (g : Groups)
     (stay : P g)
     (step : (id i : ℕ) → spotOf g id ≡ Spot.At i → (c : queue.Call) → P (withQueue g i (queue.after (queueAt g i) c)))
-    (grow : (i : ℕ) (q : Queue) → unsealed g ≡ Open → roomOf g ≡ Spot.At i → New g q → P (opening g i q))
+    (grow : (i : ℕ) (q : Queue) → unsealed g ≡ Open → roomOf g ≡ Spot.At i → New g q → P (withOpened g i q))
     (close : (id i : ℕ) → spotOf g id ≡ Spot.At i → drained (queueAt g i) ≡ true → P (withPlace g i freePlace))
     (shut : unsealed g ≡ Open → someYes g Undrained [] ≡ false → P (sealing g))
     (round : wellGrouped g ≡ true → retriesAll g ≡ true → P (allRetried g)) where
-  pub call-by : (c : Call) → P (after g c)
+  pub call-by : (c : GroupCall) → P (groupsAfter g c)
   unfolding registeredIn landedIn poppedIn completedIn retriedIn admittedIn admittedInWithout endedIn cancelledIn retriedAll scopeOf iteratorOf
   call-by addScope =
       scope-by (λ (r : AddAnswer). P (r .groups)) g (λ _ _. stay)

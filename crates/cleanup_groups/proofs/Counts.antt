@@ -8,14 +8,14 @@ use lib.ListN.{length, getD, set}
 use Rattle.choice.specs.Choice.{if_then_else_}
 use Rattle.choice.proofs.Ways.{hit, miss}
 use Rattle.queue_record.specs.declared.record.Queue.{Queue}
-use Rattle.group_record.specs.Record.{nowhere, placeAt, freePlace, livePlace, withPlace, opening}
+use Rattle.group_record.specs.Record.{nowhere, placeAt, freePlace, livePlace, withPlace, withOpened}
 use Rattle.group_record.specs.declared.record.Place.{Place}
 use Rattle.group_record.specs.declared.record.Groups.{Groups}
 use Rattle.group_check.specs.Count.{liveCount}
-use Rattle.group_lives.specs.Openings.{addedScope, addedIterator}
+use Rattle.group_openings.specs.Openings.{addedScope, addedIterator}
 use Rattle.group_endings.specs.Endings.{removed}
-use Rattle.group_lives.specs.declared.openings.Added.{Added}
-use Rattle.group_lives.specs.declared.openings.AddAnswer.{AddAnswer}
+use Rattle.group_openings.specs.declared.openings.Added.{Added}
+use Rattle.group_openings.specs.declared.openings.AddAnswer.{AddAnswer}
 use Rattle.group_endings.specs.declared.endings.Closed.the-variants.{Done}
 use Rattle.group_endings.specs.declared.endings.CloseAnswer.{CloseAnswer}
 use Rattle.cleanup_groups.specs.Promises.{LiveAt}
@@ -42,7 +42,7 @@ count-set (q ∷ ps) (suc i) p l = let r = count-set ps i p (omega arith) in let
 
 module _ (g : Groups) (i : ℕ) (l : length (g .places) ≡ 16) (k : i < 16) where
   -- an opening in a free place counts one more
-  pub count-opened : (q : Queue) → placeAt g i .live ≡ false → liveCount (opening g i q .places) ≡ liveCount (g .places) + 1
+  pub count-opened : (q : Queue) → placeAt g i .live ≡ false → liveCount (withOpened g i q .places) ≡ liveCount (g .places) + 1
   count-opened q f =
       let c = count-set (g .places) i (livePlace (g .next) q) (omega arith) in
       let z : one (placeAt g i .live) ≡ 0 = ap one f in

@@ -18,7 +18,7 @@ use Rattle.group_steps.specs.Attempts.{poppedAt, poppedIn, completedAt, complet
 use Rattle.group_stages.specs.Stages.{admittedAt, admittedIn, admittedAtWithout, admittedInWithout, endedAt, endedIn, cancelledAt, cancelledIn}
 use Rattle.group_rounds.specs.Rounds.{allRetried}
 use Rattle.cleanup_groups.specs.Promises.{idAt, IsLive, Frame}
-use Rattle.cleanup_groups.specs.Runs.{Call, after, afterAll}
+use Rattle.cleanup_groups.specs.Runs.{GroupCall, groupsAfter, groupsAfterAll}
 use Rattle.cleanup_groups.proofs.ByCase.{by-spot, close-by, call-by}
 use Rattle.cleanup_groups.proofs.Placed.{by-place}
 use Rattle.cleanup_groups.proofs.Keeps.{spot-live, round-live, round-id}
@@ -90,22 +90,22 @@ pub round-frame : (g : Groups) → Frame g (allRetried g)
 round-frame g = record { base = refl; next = refl; sealed = refl; marks = round-live g; ids = round-id g }
 
 -- the base is the record's for good
-pub base-stays : (g : Groups) (c : Call) → after g c .base ≡ g .base
+pub base-stays : (g : Groups) (c : GroupCall) → groupsAfter g c .base ≡ g .base
 unfolding sealing
 base-stays g c = call-by (λ (h : Groups). h .base ≡ g .base) g refl (λ _ _ _ _. refl) (λ _ _ _ _ _. refl) (λ _ _ _ _. refl) (λ _ _. refl) (λ _ _. refl) c
 
-pub run-base : (g : Groups) (cs : List Call) → afterAll g cs .base ≡ g .base
+pub run-base : (g : Groups) (cs : List GroupCall) → groupsAfterAll g cs .base ≡ g .base
 run-base g [] = refl
-run-base g (c ∷ cs) = run-base (after g c) cs ∙ base-stays g c
+run-base g (c ∷ cs) = run-base (groupsAfter g c) cs ∙ base-stays g c
 
 -- a sealed record stays sealed
-pub sealed-stays : (g : Groups) (c : Call) → g .sealed ≡ true → after g c .sealed ≡ true
+pub sealed-stays : (g : Groups) (c : GroupCall) → g .sealed ≡ true → groupsAfter g c .sealed ≡ true
 unfolding sealing
 sealed-stays g c s = call-by (λ (h : Groups). h .sealed ≡ true) g s (λ _ _ _ _. s) (λ _ _ _ _ _. s) (λ _ _ _ _. s) (λ _ _. refl) (λ _ _. s) c
 
-pub run-sealed : (g : Groups) (cs : List Call) → g .sealed ≡ true → afterAll g cs .sealed ≡ true
+pub run-sealed : (g : Groups) (cs : List GroupCall) → g .sealed ≡ true → groupsAfterAll g cs .sealed ≡ true
 run-sealed g [] s = s
-run-sealed g (c ∷ cs) s = run-sealed (after g c) cs (sealed-stays g c s)
+run-sealed g (c ∷ cs) s = run-sealed (groupsAfter g c) cs (sealed-stays g c s)
 
 -- a closing leaves next and seal (the base: base-stays; the other places: close-others)
 pub close-frame : (g : Groups) (id : ℕ) → (removed g id .groups .next ≡ g .next) × (removed g id .groups .sealed ≡ g .sealed)

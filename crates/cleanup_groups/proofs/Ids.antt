@@ -16,7 +16,7 @@ use Rattle.group_endings.specs.declared.endings.Closed.the-variants.{Done}
 use Rattle.group_record.specs.declared.record.Place.{Place}
 use Rattle.group_record.specs.declared.record.Groups.{Groups}
 use Rattle.cleanup_groups.specs.Promises.{LiveAt, idAt, Sound, IsLive}
-use Rattle.cleanup_groups.specs.Runs.{Call, after, afterAll}
+use Rattle.cleanup_groups.specs.Runs.{GroupCall, groupsAfter, groupsAfterAll}
 use Rattle.cleanup_groups.proofs.ByCase.{call-by}
 use Rattle.cleanup_groups.proofs.Placed.{by-place}
 use Rattle.cleanup_groups.proofs.Sounds.{sound-means}
@@ -26,7 +26,7 @@ use Rattle.cleanup_groups.proofs.Frames.{close-frame}
 use Rattle.cleanup_groups.proofs.Live.{closed-gone}
 
 -- ---- next
-pub next-rises : (g : Groups) (c : Call) → g .next ≤ after g c .next
+pub next-rises : (g : Groups) (c : GroupCall) → g .next ≤ groupsAfter g c .next
 unfolding sealing
 next-rises g c = call-by (λ (h : Groups). g .next ≤ h .next) g same (λ _ _ _ _. same) (λ _ _ _ _ _. more) (λ _ _ _ _. same) (λ _ _. same) (λ _ _. same) c
   where
@@ -45,7 +45,7 @@ module _ (g : Groups) (l : length (g .places) ≡ 16) (id : ℕ) where
       (λ _ a e. inr (a, e)) (λ _ a e. inl (w .0, w .1, a, e)) (w .2) (w .3)
 
   -- whoever is live after a call was live before it, or has the id that was next
-  pub live-from : (c : Call) → IsLive (after g c) id → IsLive g id ⊎ (id ≡ g .next)
+  pub live-from : (c : GroupCall) → IsLive (groupsAfter g c) id → IsLive g id ⊎ (id ≡ g .next)
   unfolding sealing
   live-from c = call-by (λ (h : Groups). IsLive h id → IsLive g id ⊎ (id ≡ g .next)) g
       (λ w. inl w)
@@ -56,19 +56,19 @@ module _ (g : Groups) (l : length (g .places) ≡ 16) (id : ℕ) where
       (λ _ _ w. inl (w .0, w .1, sym (round-live g (w .0)) ∙ w .2, sym (round-id g (w .0)) ∙ w .3)) c
 
 -- ---- an id that was given and is not live is never live again
-pub gone-stays : (g : Groups) (cs : List Call) (id : ℕ) → length (g .places) ≡ 16 → id < g .next → (IsLive g id → ⊥) → IsLive (afterAll g cs) id → ⊥
+pub gone-stays : (g : Groups) (cs : List GroupCall) (id : ℕ) → length (g .places) ≡ 16 → id < g .next → (IsLive g id → ⊥) → IsLive (groupsAfterAll g cs) id → ⊥
 gone-stays g [] id l b n w = n w
 gone-stays g (c ∷ cs) id l b n w =
-    let r : g .next ≤ after g c .next = next-rises g c in
-    gone-stays (after g c) cs id (call-whole g c l) (omega arith) (λ v. ⊎-elim n (λ e. omega arith) (live-from g l id c v)) w
+    let r : g .next ≤ groupsAfter g c .next = next-rises g c in
+    gone-stays (groupsAfter g c) cs id (call-whole g c l) (omega arith) (λ v. ⊎-elim n (λ e. omega arith) (live-from g l id c v)) w
 
 -- the id of a closed group, whatever is called afterwards
-pub closed-for-good : (g : Groups) (id : ℕ) (cs : List Call) → length (g .places) ≡ 16 → removed g id .answer ≡ Done → IsLive (afterAll (removed g id .groups) cs) id → ⊥
+pub closed-for-good : (g : Groups) (id : ℕ) (cs : List GroupCall) → length (g .places) ≡ 16 → removed g id .answer ≡ Done → IsLive (groupsAfterAll (removed g id .groups) cs) id → ⊥
 closed-for-good g id cs l h =
     let c = close-means g id l h in
     let s = spot-live g id (c .0) l (c .1) in
     let b : id < g .next = subst (λ (n : ℕ). n < g .next) (s .2) (sound-means g l (spot-means g id (c .0) (c .1) .0) .below (c .0) (s .0) (s .1)) in
-    gone-stays (removed g id .groups) cs id (call-whole g (Call.remove id) l) (subst (λ (n : ℕ). id < n) (sym (close-frame g id .0)) b) (closed-gone g id l h)
+    gone-stays (removed g id .groups) cs id (call-whole g (GroupCall.remove id) l) (subst (λ (n : ℕ). id < n) (sym (close-frame g id .0)) b) (closed-gone g id l h)
 
 -- ---- live groups have domains of their own
 pub domains-differ : (g : Groups) → length (g .places) ≡ 16 → wellGrouped g ≡ true → (i j : ℕ) → i < 16 → j < 16 → LiveAt g i → LiveAt g j → queueAt g i .domain ≡ queueAt g j .domain → i ≡ j

@@ -19,7 +19,7 @@ use Rattle.queue_steps.specs.Attempts.{retried}
 use Rattle.cleanup_queue.specs.Runs as queue
 use Rattle.cleanup_queue.proofs.Keeps as queues
 use Rattle.cleanup_queue.proofs.Upstream.{call-keeps-domain}
-use Rattle.group_record.specs.Record.{nowhere, placeAt, queueAt, freePlace, livePlace, holding, withPlace, withQueue, withNext, emptyOf, opening, sealing}
+use Rattle.group_record.specs.Record.{nowhere, placeAt, queueAt, freePlace, livePlace, holding, withPlace, withQueue, withNextId, emptyOf, withOpened, sealing}
 use Rattle.group_asking.specs.Questions.{asksOf}
 use Rattle.group_asking.specs.Scan.{firstYes}
 use Rattle.group_check.specs.WellFormed.{lastBase, ids, wellGrouped}
@@ -30,12 +30,12 @@ use Rattle.group_asking.specs.declared.questions.Question.{Question}
 use Rattle.group_asking.specs.declared.questions.Question.the-variants.{Free, Holds}
 use Rattle.group_check.specs.declared.ids.Spot.{Spot}
 use Rattle.group_check.proofs.Spots.{spot-means}
-use Rattle.group_lives.specs.Openings.{newOf, roomOf}
-use Rattle.group_lives.specs.declared.openings.NewAnswer.{NewAnswer}
-use Rattle.group_lives.proofs.Room.{unsealed-means, room-means}
+use Rattle.group_openings.specs.Openings.{newOf, roomOf}
+use Rattle.group_openings.specs.declared.openings.NewAnswer.{NewAnswer}
+use Rattle.group_openings.proofs.Room.{unsealed-means, room-means}
 use Rattle.group_rounds.specs.Rounds.{retriedPlace, retriedPlaces, allRetried}
 use Rattle.cleanup_groups.specs.Promises.{LiveAt, idAt, Sound}
-use Rattle.cleanup_groups.specs.Runs.{Call, after, afterAll}
+use Rattle.cleanup_groups.specs.Runs.{GroupCall, groupsAfter, groupsAfterAll}
 use Rattle.cleanup_groups.proofs.Every.{found-says, found-lowest}
 use Rattle.cleanup_groups.proofs.Sounds.{sound-means, means-sound}
 use Rattle.cleanup_groups.proofs.ByCase.{New, call-by}
@@ -91,8 +91,8 @@ module _ (g : Groups) (l : length (g .places) ≡ 16) (s : Sound g) where
     sealed = λ e. s .sealed e i k;
   })
 
-  open-sound : (i : ℕ) (q : Queue) → i < 16 → g .sealed ≡ false → g .next < 65536 → New g q → Sound (opening g i q)
-  open-sound i q k u h n = replaced (withNext g (g .next + 1)) i (livePlace (g .next) q) l k (raised g s h) (record {
+  open-sound : (i : ℕ) (q : Queue) → i < 16 → g .sealed ≡ false → g .next < 65536 → New g q → Sound (withOpened g i q)
+  open-sound i q k u h n = replaced (withNextId g (g .next + 1)) i (livePlace (g .next) q) l k (raised g s h) (record {
     apart = λ _ j x m b e. let y : idAt g j < g .next = s .below j x b in omega arith;
     below = λ _. omega arith;
     sound = λ _. n .sound;
@@ -176,7 +176,7 @@ module _ (g : Groups) where
   }
 
 -- ---- every call
-pub call-whole : (g : Groups) (c : Call) → length (g .places) ≡ 16 → length (after g c .places) ≡ 16
+pub call-whole : (g : Groups) (c : GroupCall) → length (g .places) ≡ 16 → length (groupsAfter g c .places) ≡ 16
 unfolding sealing
 call-whole g c l = call-by (λ (h : Groups). length (h .places) ≡ 16) g l
     (λ id i _ k. same-length g i (holding (placeAt g i) (queue.after (queueAt g i) k)) l)
@@ -186,7 +186,7 @@ call-whole g c l = call-by (λ (h : Groups). length (h .places) ≡ 16) g l
     (λ _ _. retried-length (g .places) ∙ l) c
 
 module _ (g : Groups) (l : length (g .places) ≡ 16) where
-  sound-after : Sound g → (c : Call) → Sound (after g c)
+  sound-after : Sound g → (c : GroupCall) → Sound (groupsAfter g c)
   unfolding sealing
   sound-after s c = call-by (λ (h : Groups). Sound h) g s
       (λ id i e k. let w = spot-live g id i l e in
@@ -196,16 +196,16 @@ module _ (g : Groups) (l : length (g .places) ≡ 16) where
       (λ _ _. all-free-sound (g .base) (g .next) true (s .base) (s .next))
       (λ _ _. round-sound g s) c
 
-  pub call-keeps : (c : Call) → wellGrouped g ≡ true → wellGrouped (after g c) ≡ true
-  call-keeps c h = means-sound (after g c) (call-whole g c l) (sound-after (sound-means g l h) c)
+  pub call-keeps : (c : GroupCall) → wellGrouped g ≡ true → wellGrouped (groupsAfter g c) ≡ true
+  call-keeps c h = means-sound (groupsAfter g c) (call-whole g c l) (sound-after (sound-means g l h) c)
 
-pub run-whole : (g : Groups) (cs : List Call) → length (g .places) ≡ 16 → length (afterAll g cs .places) ≡ 16
+pub run-whole : (g : Groups) (cs : List GroupCall) → length (g .places) ≡ 16 → length (groupsAfterAll g cs .places) ≡ 16
 run-whole g [] l = l
-run-whole g (c ∷ cs) l = run-whole (after g c) cs (call-whole g c l)
+run-whole g (c ∷ cs) l = run-whole (groupsAfter g c) cs (call-whole g c l)
 
-pub run-keeps : (g : Groups) (cs : List Call) → length (g .places) ≡ 16 → wellGrouped g ≡ true → wellGrouped (afterAll g cs) ≡ true
+pub run-keeps : (g : Groups) (cs : List GroupCall) → length (g .places) ≡ 16 → wellGrouped g ≡ true → wellGrouped (groupsAfterAll g cs) ≡ true
 run-keeps g [] l h = h
-run-keeps g (c ∷ cs) l h = run-keeps (after g c) cs (call-whole g c l) (call-keeps g l c h)
+run-keeps g (c ∷ cs) l h = run-keeps (groupsAfter g c) cs (call-whole g c l) (call-keeps g l c h)
 
 -- ---- a new record
 pub new-whole : (base : ℕ) → length (newOf base .groups .places) ≡ 16
@@ -216,11 +216,11 @@ empty-keeps : (base : ℕ) → base ≤ lastBase → wellGrouped (emptyOf base) 
 unfolding emptyOf
 empty-keeps base h = means-sound (allFree base 0 false) refl (all-free-sound base 0 false h (omega arith))
 
-root-keeps : (base : ℕ) → base ≤ lastBase → wellGrouped (opening (emptyOf base) 0 (scopeOf base 0)) ≡ true
+root-keeps : (base : ℕ) → base ≤ lastBase → wellGrouped (withOpened (emptyOf base) 0 (scopeOf base 0)) ≡ true
 unfolding emptyOf scopeOf
 root-keeps base h =
     let z : base ≡ base + 0 = omega arith in
-    means-sound (opening (allFree base 0 false) 0 (scopeOf base 0)) refl
+    means-sound (withOpened (allFree base 0 false) 0 (scopeOf base 0)) refl
     (open-sound (allFree base 0 false) refl (all-free-sound base 0 false h (omega arith)) 0 (scopeOf base 0)
     (omega arith) refl (omega arith) (record { sound = scope-well-formed base 0; domain = z; sized = scope-sized base 0 }))
 

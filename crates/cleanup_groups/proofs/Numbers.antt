@@ -26,10 +26,10 @@ use Rattle.group_check.specs.Ids.{spotAt, spotOf, gotAt, got}
 use Rattle.group_record.specs.declared.record.Groups.{Groups}
 use Rattle.group_check.specs.declared.ids.Spot.{Spot}
 use Rattle.group_asking.specs.declared.questions.Question.the-variants.{Free, Holds, Undrained}
-use Rattle.group_lives.specs.Openings.{newOf, unsealed, nextDomain, roomAt, addedAt, added, addedQueue, addedOpening, addedScope, addedIterator}
+use Rattle.group_openings.specs.Openings.{newOf, unsealed, nextDomain, roomAt, addedAt, added, addedQueue, addedOpening, addedScope, addedIterator}
 use Rattle.group_endings.specs.Endings.{removedAt, removed, sealedBy, sealedIn}
-use Rattle.group_lives.specs.declared.openings.NewAnswer.{NewAnswer}
-use Rattle.group_lives.specs.declared.openings.AddAnswer.{AddAnswer}
+use Rattle.group_openings.specs.declared.openings.NewAnswer.{NewAnswer}
+use Rattle.group_openings.specs.declared.openings.AddAnswer.{AddAnswer}
 use Rattle.group_endings.specs.declared.endings.CloseAnswer.{CloseAnswer}
 use Rattle.cleanup_groups.specs.Answers.{addedSays, closedSays, gotSays}
 use Rattle.cleanup_groups.specs.Orders.{newOrder, openOrder, idOrder, undrainedAt, closeOrder, sealOrder}

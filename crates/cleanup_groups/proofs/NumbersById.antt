@@ -15,7 +15,7 @@ use Rattle.queue_record.specs.declared.search.Found.the-variants.{At, Missing}
 use Rattle.queue_questions.specs.Questions.{matches, isCancelledTold, domainTold}
 use Rattle.queue_questions.specs.declared.questions.Told.{Told}
 use Rattle.cleanup_queue.specs.Answers.{registeredSays, poppedSays, completedSays, retriedSays, toldSays, cancelledSays, domainSays}
-use Rattle.cleanup_queue.specs.Orders.{Due, firstDue, registerOrder, landOrder, popOrder, completeOrder, retryOrder, brokenOnly}
+use Rattle.cleanup_queue.specs.Orders.{Ground, firstDue, registerOrder, landOrder, popOrder, completeOrder, retryOrder, brokenOnly}
 use Rattle.cleanup_queue.proofs.Numbers as queue
 use Rattle.group_record.specs.Record.{queueAt}
 use Rattle.group_asking.specs.Scan.{firstYes, someYes}
@@ -45,7 +45,7 @@ use Rattle.cleanup_groups.specs.Orders.{orderAt, stepOrder, recordOrder}
 -- ---- as the queue
 module _ (g : Groups) (id : ℕ) where
   -- whichever call: it refuses with the number of the id, and at a place as the queue there
-  step-number : {A : Type 0} (number : A → ℕ) (f : Spot → A) (order : Queue → List Due) → ((n : ℕ) → number (f (Spot.Refused n)) ≡ n)
+  step-number : {A : Type 0} (number : A → ℕ) (f : Spot → A) (order : Queue → List Ground) → ((n : ℕ) → number (f (Spot.Refused n)) ≡ n)
       → ((i : ℕ) → number (f (Spot.At i)) ≡ firstDue (order (queueAt g i))) → number (f (spotOf g id)) ≡ firstDue (stepOrder g id order)
   unfolding spotOf
   step-number number f order r s = go (not (wellGrouped g)) (firstYes g (Holds id) [])
@@ -129,7 +129,7 @@ module _ (g : Groups) where
       (if-by (λ (r : RetryAllAnswer). toldSays (r .answer) .number ≡ 0) (not (retriesAll g)) _ _ (λ _. refl) (λ _. refl))
 
 -- ---- an id that is not live gets 10 from every call by id, and a spoiled record 1
-module _ (g : Groups) (id : ℕ) (order : Queue → List Due) where
+module _ (g : Groups) (id : ℕ) (order : Queue → List Ground) where
   pub broken-first : wellGrouped g ≡ false → firstDue (stepOrder g id order) ≡ broken
   broken-first w = hit _ (ap not w)
 

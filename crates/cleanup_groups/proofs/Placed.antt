@@ -9,7 +9,7 @@ use lib.ListN.{length, getD, set, length-set}
 use lib.Seq.{getD-set-same, getD-set-other}
 use Rattle.queue_record.specs.WellFormed.{wellFormed}
 use Rattle.queue_record.specs.Blank.{isBlank}
-use Rattle.group_record.specs.Record.{nowhere, placeAt, withPlace, withNext}
+use Rattle.group_record.specs.Record.{nowhere, placeAt, withPlace, withNextId}
 use Rattle.group_record.specs.declared.record.Place.{Place}
 use Rattle.group_record.specs.declared.record.Groups.{Groups}
 use Rattle.cleanup_groups.specs.Promises.{LiveAt, idAt, Sound}
@@ -56,7 +56,7 @@ module _ (g : Groups) (i : ℕ) (p : Place) (l : length (g .places) ≡ 16) (k :
   }
 
 -- one id more
-pub raised : (g : Groups) → Sound g → g .next < 65536 → Sound (withNext g (g .next + 1))
+pub raised : (g : Groups) → Sound g → g .next < 65536 → Sound (withNextId g (g .next + 1))
 raised g s h = record {
   base = s .base;
   next = omega arith;

@@ -19,10 +19,10 @@ use Rattle.group_record.specs.Record.{nowhere, queueAt, withQueue, withPlaces}
 use Rattle.group_check.specs.Ids.{spotOf}
 use Rattle.group_record.specs.declared.record.Place.{Place}
 use Rattle.group_record.specs.declared.record.Groups.{Groups}
-use Rattle.group_lives.specs.Openings.{addedScope, addedIterator}
+use Rattle.group_openings.specs.Openings.{addedScope, addedIterator}
 use Rattle.group_endings.specs.Endings.{removed, sealedIn}
-use Rattle.group_lives.specs.declared.openings.Added.{Added}
-use Rattle.group_lives.specs.declared.openings.AddAnswer.{AddAnswer}
+use Rattle.group_openings.specs.declared.openings.Added.{Added}
+use Rattle.group_openings.specs.declared.openings.AddAnswer.{AddAnswer}
 use Rattle.group_endings.specs.declared.endings.Closed.{Closed}
 use Rattle.group_endings.specs.declared.endings.CloseAnswer.{CloseAnswer}
 use Rattle.group_steps.specs.Births.{registeredAt, registeredIn, landedAt, landedIn}

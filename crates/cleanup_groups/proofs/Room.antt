@@ -23,10 +23,10 @@ use Rattle.group_record.specs.declared.record.Groups.{Groups}
 use Rattle.group_asking.specs.declared.questions.Question.the-variants.{Free, Live}
 use Rattle.group_check.specs.declared.ids.Spot.{Spot}
 use Rattle.group_survey.specs.Whole.{roomFor, canAddOf, isEmptyOf}
-use Rattle.group_lives.specs.Openings.{unsealed, nextDomain, roomAt, roomOf, addedAt, addedQueue, addedOpening, addedScope, addedIterator}
-use Rattle.group_lives.specs.declared.openings.Added.{Added}
-use Rattle.group_lives.specs.declared.openings.AddAnswer.{AddAnswer}
-use Rattle.group_lives.proofs.Room.{unsealed-means, means-unsealed, room-means}
+use Rattle.group_openings.specs.Openings.{unsealed, nextDomain, roomAt, roomOf, addedAt, addedQueue, addedOpening, addedScope, addedIterator}
+use Rattle.group_openings.specs.declared.openings.Added.{Added}
+use Rattle.group_openings.specs.declared.openings.AddAnswer.{AddAnswer}
+use Rattle.group_openings.proofs.Room.{unsealed-means, means-unsealed, room-means}
 use Rattle.cleanup_groups.proofs.ByCase.{scope-by, iterator-by}
 use Rattle.cleanup_groups.proofs.Asked.{told-yes, yes-told, none-means, means-none}
 

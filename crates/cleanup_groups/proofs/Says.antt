@@ -22,11 +22,11 @@ use Rattle.group_check.specs.declared.ids.GetAnswer.{GetAnswer}
 use Rattle.group_survey.specs.Whole.{toldOf, retriesAll, lenOf}
 use Rattle.group_survey.specs.declared.whole.LenTold.{LenTold}
 use Rattle.group_questions.specs.ById.{domainIn}
-use Rattle.group_lives.specs.Openings.{newOf, addedScope, addedIterator}
+use Rattle.group_openings.specs.Openings.{newOf, addedScope, addedIterator}
 use Rattle.group_endings.specs.Endings.{removed, sealedIn}
-use Rattle.group_lives.specs.declared.openings.NewAnswer.{NewAnswer}
-use Rattle.group_lives.specs.declared.openings.Added.{Added}
-use Rattle.group_lives.specs.declared.openings.AddAnswer.{AddAnswer}
+use Rattle.group_openings.specs.declared.openings.NewAnswer.{NewAnswer}
+use Rattle.group_openings.specs.declared.openings.Added.{Added}
+use Rattle.group_openings.specs.declared.openings.AddAnswer.{AddAnswer}
 use Rattle.group_endings.specs.declared.endings.Closed.{Closed}
 use Rattle.group_endings.specs.declared.endings.CloseAnswer.{CloseAnswer}
 use Rattle.group_rounds.specs.Rounds.{allRetried, roundDone, retriedAll}

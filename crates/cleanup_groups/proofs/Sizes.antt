@@ -15,10 +15,10 @@ use Rattle.group_record.specs.Record.{nowhere, placeAt, queueAt, freePlace, liv
 use Rattle.group_record.specs.declared.record.Place.{Place}
 use Rattle.group_record.specs.declared.record.Groups.{Groups}
 use Rattle.group_check.specs.WellFormed.{lastBase}
-use Rattle.group_lives.specs.Openings.{newOf}
-use Rattle.group_lives.specs.declared.openings.NewAnswer.{NewAnswer}
+use Rattle.group_openings.specs.Openings.{newOf}
+use Rattle.group_openings.specs.declared.openings.NewAnswer.{NewAnswer}
 use Rattle.cleanup_groups.specs.Promises.{AllSized}
-use Rattle.cleanup_groups.specs.Runs.{Call, after, afterAll}
+use Rattle.cleanup_groups.specs.Runs.{GroupCall, groupsAfter, groupsAfterAll}
 use Rattle.cleanup_groups.proofs.ByCase.{call-by}
 use Rattle.cleanup_groups.proofs.Placed.{by-place}
 use Rattle.cleanup_groups.proofs.Keeps.{spot-live, room-free, free-there, by-round, call-whole}
@@ -35,7 +35,7 @@ new-sized base =
     if-by (λ (r : NewAnswer). AllSized (r .groups)) (ltb lastBase base) _ _ (λ _. free-sized)
     (λ _. put-sized (emptyOf base) 0 (livePlace 0 (scopeOf base 0)) refl (omega arith) free-sized (scope-sized base 0))
 
-pub call-sized : (g : Groups) (c : Call) → length (g .places) ≡ 16 → AllSized g → AllSized (after g c)
+pub call-sized : (g : Groups) (c : GroupCall) → length (g .places) ≡ 16 → AllSized g → AllSized (groupsAfter g c)
 unfolding sealing
 call-sized g c l s = call-by AllSized g s
     (λ id i e k. let w = spot-live g id i l e in put-sized g i (holding (placeAt g i) (queue.after (queueAt g i) k)) l (w .0) s (sizes.call-sized (queueAt g i) k (s i (w .0))))
@@ -44,6 +44,6 @@ call-sized g c l s = call-by AllSized g s
     (λ _ _. free-sized)
     (λ _ _ i k. by-round (λ (p : Place). Sized (p .queue)) g i (λ _ _. sizes.call-sized (queueAt g i) queue.retry (s i k)) (λ _. s i k)) c
 
-pub run-sized : (g : Groups) (cs : List Call) → length (g .places) ≡ 16 → AllSized g → AllSized (afterAll g cs)
+pub run-sized : (g : Groups) (cs : List GroupCall) → length (g .places) ≡ 16 → AllSized g → AllSized (groupsAfterAll g cs)
 run-sized g [] l s = s
-run-sized g (c ∷ cs) l s = run-sized (after g c) cs (call-whole g c l) (call-sized g c l s)
+run-sized g (c ∷ cs) l s = run-sized (groupsAfter g c) cs (call-whole g c l) (call-sized g c l s)

@@ -19,18 +19,18 @@ use Rattle.queue_steps.specs.Attempts.{retried}
 use Rattle.queue_questions.specs.declared.questions.Told.the-variants.{Yes}
 use Rattle.cleanup_queue.proofs.Upstream.{retry-leaves, call-keeps-domain}
 use Rattle.cleanup_queue.specs.Runs as queue
-use Rattle.group_record.specs.Record.{placeAt, queueAt, livePlace, emptyOf, opening, sealing}
+use Rattle.group_record.specs.Record.{placeAt, queueAt, livePlace, emptyOf, withOpened, sealing}
 use Rattle.group_asking.specs.Questions.{finishes}
 use Rattle.group_check.specs.WellFormed.{lastBase}
 use Rattle.group_check.specs.declared.ids.Spot.{Spot}
 use Rattle.group_record.specs.declared.record.Place.{Place}
 use Rattle.group_record.specs.declared.record.Groups.{Groups}
 use Rattle.group_survey.specs.Whole.{canFinishOf}
-use Rattle.group_lives.specs.Openings.{newOf, unsealed, nextDomain, roomOf, addedScope, addedIterator}
-use Rattle.group_lives.specs.declared.openings.NewAnswer.{NewAnswer}
-use Rattle.group_lives.proofs.Room.{unsealed-means}
-use Rattle.group_lives.specs.declared.openings.Added.{Added}
-use Rattle.group_lives.specs.declared.openings.AddAnswer.{AddAnswer}
+use Rattle.group_openings.specs.Openings.{newOf, unsealed, nextDomain, roomOf, addedScope, addedIterator}
+use Rattle.group_openings.specs.declared.openings.NewAnswer.{NewAnswer}
+use Rattle.group_openings.proofs.Room.{unsealed-means}
+use Rattle.group_openings.specs.declared.openings.Added.{Added}
+use Rattle.group_openings.specs.declared.openings.AddAnswer.{AddAnswer}
 use Rattle.group_rounds.specs.Rounds.{allRetried}
 use Rattle.cleanup_groups.specs.Promises.{LiveAt, idAt, AddedAs}
 use Rattle.cleanup_groups.proofs.ByCase.{scope-by, iterator-by}
@@ -62,7 +62,7 @@ new-alone base i h k = if-by (λ (r : NewAnswer). LiveAt (r .groups) i → i ≡
 
 -- ---- an opening that is done
 module _ (g : Groups) (l : length (g .places) ≡ 16) (n : ℕ) where
-  add-as : (q : Queue) (i : ℕ) → unsealed g ≡ Open → roomOf g ≡ Spot.At i → Added.Id (g .next) ≡ Added.Id n → AddedAs g n q (opening g i q)
+  add-as : (q : Queue) (i : ℕ) → unsealed g ≡ Open → roomOf g ≡ Spot.At i → Added.Id (g .next) ≡ Added.Id n → AddedAs g n q (withOpened g i q)
   add-as q i u e h =
       let z : g .next ≡ n = cc in
       let k = room-free g i l e in

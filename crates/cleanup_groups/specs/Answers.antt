@@ -5,7 +5,7 @@ use Rattle.queue_record.specs.Refusals.{done}
 use Rattle.cleanup_queue.specs.Answers.{Said, says}
 use Rattle.group_check.specs.declared.ids.Got.{Got}
 use Rattle.group_survey.specs.declared.whole.LenTold.{LenTold}
-use Rattle.group_lives.specs.declared.openings.Added.{Added}
+use Rattle.group_openings.specs.declared.openings.Added.{Added}
 use Rattle.group_endings.specs.declared.endings.Closed.{Closed}
 
 -- an opening: the id

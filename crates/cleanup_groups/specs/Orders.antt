@@ -8,7 +8,7 @@ use Rattle.queue_record.specs.Refusals.{broken, noGroup, groupsFull, sealed, no
 use Rattle.queue_record.specs.declared.record.Queue.{Queue}
 use Rattle.queue_record.specs.declared.search.Found.{Found}
 use Rattle.queue_record.specs.declared.search.Found.the-variants.{At, Missing}
-use Rattle.cleanup_queue.specs.Orders.{Due, due}
+use Rattle.cleanup_queue.specs.Orders.{Ground, due}
 use Rattle.group_record.specs.Record.{queueAt}
 use Rattle.group_asking.specs.Questions.{drained}
 use Rattle.group_asking.specs.Scan.{firstYes, someYes}
@@ -17,11 +17,11 @@ use Rattle.group_record.specs.declared.record.Groups.{Groups}
 use Rattle.group_asking.specs.declared.questions.Question.the-variants.{Free, Holds, Undrained}
 
 -- a new record 19
-abbrev pub newOrder : ℕ → List Due
+abbrev pub newOrder : ℕ → List Ground
 newOrder base = due noId (ltb lastBase base) ∷ []
 
 -- open checks 1, 12, 14, 11, 19
-abbrev pub openOrder : Groups → List ℕ → List Due
+abbrev pub openOrder : Groups → List ℕ → List Ground
 openOrder g bindings =
     due broken (not (wellGrouped g)) ∷
     due sealed (g .sealed) ∷
@@ -31,23 +31,23 @@ openOrder g bindings =
     []
 
 -- calls by id check 1, 10
-abbrev pub idOrder : Groups → ℕ → List Due
+abbrev pub idOrder : Groups → ℕ → List Ground
 idOrder g id =
     due broken (not (wellGrouped g)) ∷
     due noGroup (not (someYes g (Holds id) [])) ∷
     []
 
 -- what the queue that was found checks
-abbrev pub orderAt : Groups → (Queue → List Due) → Found → List Due
+abbrev pub orderAt : Groups → (Queue → List Ground) → Found → List Ground
 orderAt g order Missing = []
 orderAt g order (At i) = order (queueAt g i)
 
 -- other calls check 1, 10, then as the queue
-abbrev pub stepOrder : Groups → ℕ → (Queue → List Due) → List Due
+abbrev pub stepOrder : Groups → ℕ → (Queue → List Ground) → List Ground
 stepOrder g id order = idOrder g id ++ orderAt g order (firstYes g (Holds id) [])
 
 -- calls on the whole record check 1 alone
-abbrev pub recordOrder : Groups → List Due
+abbrev pub recordOrder : Groups → List Ground
 recordOrder g = due broken (not (wellGrouped g)) ∷ []
 
 -- the group that was found is not drained
@@ -56,11 +56,11 @@ undrainedAt g Missing = false
 undrainedAt g (At i) = not (drained (queueAt g i))
 
 -- close checks 1, 10, 13
-abbrev pub closeOrder : Groups → ℕ → List Due
+abbrev pub closeOrder : Groups → ℕ → List Ground
 closeOrder g id = idOrder g id ++ (due notDrained (undrainedAt g (firstYes g (Holds id) [])) ∷ [])
 
 -- seal checks 1, 12, 13
-abbrev pub sealOrder : Groups → List Due
+abbrev pub sealOrder : Groups → List Ground
 sealOrder g =
     due broken (not (wellGrouped g)) ∷
     due sealed (g .sealed) ∷

@@ -16,15 +16,15 @@ use Rattle.queue_steps.specs.declared.attempts.RetryAnswer.{RetryAnswer}
 use Rattle.queue_stages.specs.Stages.{admitted, ended, cancelledBy}
 use Rattle.queue_stages.specs.declared.stages.StageAnswer.{StageAnswer}
 use Rattle.queue_stages.specs.declared.stages.CancelAnswer.{CancelAnswer}
-use Rattle.cleanup_queue.specs.Runs.{Call, register, land, pop, complete, retry, admit, end, cancel, after, tokenOf, bornBy, tokens, Rising}
+use Rattle.cleanup_queue.specs.Runs.{Call, register, land, pop, complete, retry, admit, end, cancel, after, tokenOf, tokensBornBy, tokens, Rising}
 use Rattle.cleanup_queue.proofs.ByCase.{register-by, land-by, pop-by, complete-by, retry-by}
-use Rattle.cleanup_queue.proofs.Rises.{From, empty, next as later, lower, from-rising}
+use Rattle.cleanup_queue.proofs.Rises.{From, empty, later, lower, from-rising}
 
 -- a call gives no token and leaves the count, or gives the count as token and raises it
 abbrev Gives : Queue → List ℕ → Queue → Type 0
 Gives q given p = ((given ≡ []) × (p .count ≡ q .count)) ⊎ ((given ≡ q .count ∷ []) × (p .count ≡ q .count + 1))
 
-call-gives : (q : Queue) (c : Call) → Gives q (bornBy q c) (after q c)
+call-gives : (q : Queue) (c : Call) → Gives q (tokensBornBy q c) (after q c)
 unfolding admitted ended cancelledBy
 call-gives q (register n) = register-by (λ (r : RegisterAnswer). Gives q (tokenOf (r .answer)) (r .queue)) q n (λ _. inl (refl, refl)) (λ _ _ _. inr (refl, refl))
 call-gives q (land n) = land-by (λ (r : RegisterAnswer). Gives q (tokenOf (r .answer)) (r .queue)) q n (λ _. inl (refl, refl)) (λ _ _ _ _. inr (refl, refl))
@@ -42,7 +42,7 @@ call-gives q cancel = inl (refl, if-by (λ (r : CancelAnswer). r .queue .count �
 
 run-from : (q : Queue) (cs : List Call) → From (q .count) (tokens q cs)
 run-from q [] = empty (q .count)
-run-from q (c ∷ cs) = ⊎-elim (λ g. same (bornBy q c) (g .0) (g .1) (run-from (after q c) cs)) (λ g. risen (bornBy q c) (g .0) (g .1) (run-from (after q c) cs)) (call-gives q c)
+run-from q (c ∷ cs) = ⊎-elim (λ g. same (tokensBornBy q c) (g .0) (g .1) (run-from (after q c) cs)) (λ g. risen (tokensBornBy q c) (g .0) (g .1) (run-from (after q c) cs)) (call-gives q c)
   where
     same : (xs : List ℕ) → xs ≡ [] → after q c .count ≡ q .count → From (after q c .count) (tokens (after q c) cs) → From (q .count) (xs ++ tokens (after q c) cs)
     same xs e k r = rw e (lower (q .count) (after q c .count) (tokens (after q c) cs) (omega arith) r)

@@ -27,7 +27,7 @@ use Rattle.queue_decisions.specs.declared.pops.Due.{Due}
 use Rattle.queue_decisions.specs.declared.renewals.Renewal.{Renewal}
 use Rattle.queue_decisions.specs.Slots.{noMore}
 use Rattle.queue_decisions.specs.Answers.{isOut, keepsOnDone, completeRefusal}
-use Rattle.queue_steps.specs.Attempts.{slot, refusedPop, nothing, handed, freshTicket, poppedAs, popped, refusedComplete, answered, completedBy}
+use Rattle.queue_steps.specs.Attempts.{slot, refusedPop, poppedNothing, handed, freshTicket, poppedAs, popped, refusedComplete, answered, completedBy}
 use Rattle.queue_steps.specs.Attempts.{completed, refusedRetry, retryAllowed, renewed, again, retriedAs, retried}
 use Rattle.queue_births.specs.declared.births.RegisterAnswer.{RegisterAnswer}
 use Rattle.queue_steps.specs.declared.attempts.Popped.the-variants.{Work}
@@ -102,7 +102,7 @@ abbrev pub ReadyCase : (PopAnswer → Type 0) → Queue → Type 0
 ReadyCase P q = Popping q → (t : Ticket) → q .selection ≡ Of t → (slot q (t .token) ≡ 0 → ⊥) → P (handed q t (slot q (t .token)) (q .next))
 
 -- pop, whose refusals are never 9
-module _ (P : PopAnswer → Type 0) (q : Queue) (refused : (n : ℕ) → (n ≡ hollow → ⊥) → (n ≡ 0 → ⊥) → P (refusedPop q n)) (idle : P (nothing q)) (fresh : FreshCase P q) (ready : ReadyCase P q) where
+module _ (P : PopAnswer → Type 0) (q : Queue) (refused : (n : ℕ) → (n ≡ hollow → ⊥) → (n ≡ 0 → ⊥) → P (refusedPop q n)) (idle : P (poppedNothing q)) (fresh : FreshCase P q) (ready : ReadyCase P q) where
   -- of what is due
   abbrev D : Due → Type 0
   D d = P (poppedAs q d)
@@ -127,7 +127,7 @@ module _ (P : PopAnswer → Type 0) (q : Queue) (refused : (n : ℕ) → (n ≡ 
       if-by D (q .failed) _ _ (λ _. idle) (λ f.
       by-selection (record { sound = not-false _ w; issued = i; failed = f }) (q .selection) refl)))
 
-pub pop-by : (P : PopAnswer → Type 0) (q : Queue) → ((n : ℕ) → (n ≡ hollow → ⊥) → P (refusedPop q n)) → P (nothing q) → FreshCase P q → ReadyCase P q → P (popped q)
+pub pop-by : (P : PopAnswer → Type 0) (q : Queue) → ((n : ℕ) → (n ≡ hollow → ⊥) → P (refusedPop q n)) → P (poppedNothing q) → FreshCase P q → ReadyCase P q → P (popped q)
 pop-by P q refused = pop-cases P q (λ n h _. refused n h)
 
 -- work is one ticket with one number
@@ -135,8 +135,8 @@ pub work-parts : (s t : Ticket) (m n : ℕ) → Work s m ≡ Work t n → (s ≡
 work-parts s t m n e = (cc, cc)
 
 -- ---- complete
-abbrev pub settled : Queue → CompleteAnswer
-settled q = record { answer = Completed.Settled; queue = q }
+abbrev pub settledAnswer : Queue → CompleteAnswer
+settledAnswer q = record { answer = Completed.Settled; queue = q }
 
 -- what is known of the ticket that is out
 pub record Outside (q : Queue) (t : Ticket) : Type 0 where
@@ -146,7 +146,7 @@ pub record Outside (q : Queue) (t : Ticket) : Type 0 where
 
 module _ (P : CompleteAnswer → Type 0) (q : Queue) (t : Ticket) (outcome kept : ℕ) where
   abbrev pub Settles : Type 0
-  Settles = Outside q t → outcome ≤ 1 → keepsOnDone outcome kept ≡ false → P (settled (answered q (t .token) outcome kept))
+  Settles = Outside q t → outcome ≤ 1 → keepsOnDone outcome kept ≡ false → P (settledAnswer (answered q (t .token) outcome kept))
 
   pub complete-cases : ((n : ℕ) → (n ≡ 0 → ⊥) → P (refusedComplete q n kept)) → Settles → P (completed q t outcome kept)
   unfolding completed completeRefusal

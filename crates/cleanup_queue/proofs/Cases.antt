@@ -28,7 +28,7 @@ use Rattle.queue_steps.specs.Attempts.{popped, completed, retried}
 use Rattle.queue_births.specs.declared.births.RegisterAnswer.{RegisterAnswer}
 use Rattle.queue_stages.specs.Stages.{admitted}
 use Rattle.cleanup_queue.specs.Answers.{Said, says, registeredSays, poppedSays, completedSays, retriedSays}
-use Rattle.cleanup_queue.specs.Marked.{fresh, two, out, failed, outAgain, last, lastOut, spent, registers, table, defined, written}
+use Rattle.cleanup_queue.specs.Marked.{newScope, two, out, failed, outAgain, last, lastOut, spent, registers, table, definitionSays, paperSays}
 use Rattle.cleanup_queue.proofs.Keeps.{register-keeps}
 
 -- ---- the scope of W2 to W9 at each step, written out, so that each case computes from the one before
@@ -71,7 +71,7 @@ unfolding wellFormed completed completeRefusal
 spent-is = ap (λ (q : Queue). completed q (ticket 0 2) 1 0 .queue) lastOut-is
 
 -- ---- what each call answers there
-w1 : poppedSays (popped fresh .answer) ≡ says 0 []
+w1 : poppedSays (popped newScope .answer) ≡ says 0 []
 unfolding wellFormed newest scopeOf popped popDue
 w1 = refl
 
@@ -165,7 +165,7 @@ w12-full =
 rows : {x y : Said} {xs ys : List Said} → x ≡ y → xs ≡ ys → x ∷ xs ≡ y ∷ ys
 rows e f = rw (e, f)
 
-pub marked-cases : defined table ≡ written table
+pub marked-cases : definitionSays table ≡ paperSays table
 unfolding sameSet wellFormed newest scopeOf iteratorOf iteratorOpened registered registerRefusal landed landRefusal popped popDue completed completeRefusal retried retryDue admitted
 marked-cases =
     rows w1 (rows w2 (rows w3

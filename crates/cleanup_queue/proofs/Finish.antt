@@ -20,7 +20,7 @@ use Rattle.queue_record.specs.declared.record.Selection.{Selection}
 use Rattle.queue_record.specs.declared.record.Selection.the-variants.{Free, Of}
 use Rattle.queue_record.specs.declared.record.Queue.{Queue}
 use Rattle.queue_record.proofs.Fit.{failed-not-issued}
-use Rattle.queue_steps.specs.Attempts.{slot, nothing, poppedAs, popped, refusedRetry, retriedAs, retried}
+use Rattle.queue_steps.specs.Attempts.{slot, poppedNothing, poppedAs, popped, refusedRetry, retriedAs, retried}
 use Rattle.queue_decisions.specs.Pops.{popDue}
 use Rattle.queue_decisions.specs.Renewals.{dueAgain, retryDue}
 use Rattle.queue_questions.specs.Questions.{yesOrNo, asked, committed, finishable, canFinishTold, nothingLeft, isEmptyTold}
@@ -72,7 +72,7 @@ finish-happens = refl
 -- ---- a failed, emptied slot blocks
 module _ (q : Queue) (t : Ticket) (h : wellFormed q ≡ true) (e : q .selection ≡ Of t) (f : q .failed ≡ true) where
   -- nothing is handed out while one has failed, whatever its slot holds
-  pub failed-blocks : popped q ≡ nothing q
+  pub failed-blocks : popped q ≡ poppedNothing q
   unfolding popped popDue
   failed-blocks = miss _ (ap not h) ∙ ap (poppedAs q) (miss _ (failed-not-issued q h f) ∙ hit _ f)
 

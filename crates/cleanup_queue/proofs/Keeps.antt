@@ -8,7 +8,7 @@ use borrow.Author.Tests.{ltb-true, ltb-false}
 use lib.Dec.{eqb, ltb}
 use lib.ListN.{length, getD, set, List·getD-eq-default}
 use lib.Seq.{getD-set-same, getD-set-other, drop-set-lt, set-out}
-use Rattle.stage.specs.Phases.{next, isSettled}
+use Rattle.stage.specs.Phases.{phaseAfter, isSettled}
 use Rattle.stage.specs.declared.phases.Phase.{Phase}
 use Rattle.stage.specs.declared.phases.Phase.the-variants.{Idle, Pending, Ended, Stopping, Closed}
 use Rattle.stage.specs.declared.phases.Event.{Event}
@@ -83,7 +83,7 @@ module _ (q : Queue) (n : ℕ) where
 
 -- ---- the stage
 -- a settled stage stays settled, so a scope's phase stays Ended or Closed
-stays-settled : (p : Phase) (e : Event) → isSettled p ≡ true → isSettled (next p e) ≡ true
+stays-settled : (p : Phase) (e : Event) → isSettled p ≡ true → isSettled (phaseAfter p e) ≡ true
 stays-settled Ended Admit h = refl
 stays-settled Ended Land h = refl
 stays-settled Ended End h = refl
@@ -96,15 +96,15 @@ stays-settled Idle e h = clash h refl
 stays-settled Pending e h = clash h refl
 stays-settled Stopping e h = clash h refl
 
-scope-moves : (k : Kind) (b : ℕ) (p : Phase) (e : Event) → scopeFits k b p ≡ true → scopeFits k b (next p e) ≡ true
+scope-moves : (k : Kind) (b : ℕ) (p : Phase) (e : Event) → scopeFits k b p ≡ true → scopeFits k b (phaseAfter p e) ≡ true
 scope-moves Iterator b p e h = refl
 scope-moves Scope b p e h = pass _ (and-left (eqb b 0) (isSettled p) h) ∙ stays-settled p e (and-right (eqb b 0) (isSettled p) h)
 
 phase-fits : (q : Queue) (p : Phase) → Fit q → scopeFits (q .kind) (q .bound) p ≡ true → wellFormed (withPhase q p) ≡ true
 phase-fits q p f s = fits (withPhase q p) (record { given = f .given; count = f .count; slots = f .slots; scope = s; ticket = f .ticket; marks = f .marks; selected = f .selected })
 
-moved-fits : (q : Queue) (e : Event) → wellFormed q ≡ true → wellFormed (withPhase q (next (q .phase) e)) ≡ true
-moved-fits q e h = phase-fits q (next (q .phase) e) (fit q h) (scope-moves (q .kind) (q .bound) (q .phase) e (fit q h .scope))
+moved-fits : (q : Queue) (e : Event) → wellFormed q ≡ true → wellFormed (withPhase q (phaseAfter (q .phase) e)) ≡ true
+moved-fits q e h = phase-fits q (phaseAfter (q .phase) e) (fit q h) (scope-moves (q .kind) (q .bound) (q .phase) e (fit q h .scope))
 
 pub land-keeps : (q : Queue) (n : ℕ) → wellFormed q ≡ true → wellFormed (landed q n .queue) ≡ true
 land-keeps q n h = land-by (λ (r : RegisterAnswer). wellFormed (r .queue) ≡ true) q n (λ _. h) (λ w z p k. moved-fits (grown q n) Land (fits (grown q n) (grown-fit q n w k)))

@@ -4,6 +4,7 @@ use mathlib.Core.Path.{_≡_, refl, ap, _∙_}
 use mathlib.Core.Bool.{Bool, not}
 use mathlib.Core.List.{List, [], _∷_}
 use native.Mathlib.Omega.{arith}
+use Rattle.choice.specs.Choice.{bit}
 use Rattle.stage.specs.Phases.{isPending, isSettled, isCancelled}
 use Rattle.choice.proofs.Ways.{if-by}
 use Rattle.queue_record.specs.WellFormed.{wellFormed}
@@ -29,19 +30,19 @@ use Rattle.queue_stages.specs.declared.stages.StageAnswer.{StageAnswer}
 use Rattle.queue_stages.specs.declared.stages.CancelAnswer.{CancelAnswer}
 use Rattle.queue_stages.specs.declared.stages.Cancelled.{Cancelled}
 use Rattle.cleanup_queue.specs.Answers.{Said, openedSays, registeredSays, poppedSays, completedSays, retriedSays, toldSays, cancelledSays, domainSays}
-use Rattle.cleanup_queue.specs.Orders.{Due, firstDue, firstSaid, openingOrder, registerOrder, landOrder, popOrder, workValues, completeOrder}
-use Rattle.cleanup_queue.specs.Orders.{retryOrder, renewedValues, brokenOnly, bit, OnlyBroken}
+use Rattle.cleanup_queue.specs.Orders.{Ground, firstDue, firstSaid, openingOrder, registerOrder, landOrder, popOrder, workValues, completeOrder}
+use Rattle.cleanup_queue.specs.Orders.{retryOrder, renewedValues, brokenOnly, OnlyBroken}
 use Rattle.cleanup_queue.proofs.ByCase.{register-by, land-by, pop-by, complete-by, retry-by}
 use Rattle.cleanup_queue.proofs.Said.{opening-said, register-said, land-said, pop-said, complete-said, retry-said, told-said, asked-said}
 use Rattle.cleanup_queue.proofs.Said.{admit-said, end-said, cancel-said, domain-said, never-refused}
 pub use Rattle.cleanup_queue.proofs.Said.{due-if}
 
 -- the number of what is said is the first that is due
-said-number : (ds : List Due) (back own : List ℕ) → firstSaid ds back own .number ≡ firstDue ds
+said-number : (ds : List Ground) (back own : List ℕ) → firstSaid ds back own .number ≡ firstDue ds
 said-number [] back own = refl
 said-number (d ∷ ds) back own = due-if (λ (s : Said). s .number) (d .case) _ _ refl (said-number ds back own)
 
-first : {s : Said} (ds : List Due) (back own : List ℕ) → s ≡ firstSaid ds back own → s .number ≡ firstDue ds
+first : {s : Said} (ds : List Ground) (back own : List ℕ) → s ≡ firstSaid ds back own → s .number ≡ firstDue ds
 first ds back own e = ap (λ (s : Said). s .number) e ∙ said-number ds back own
 
 -- ---- the opening of an iterator

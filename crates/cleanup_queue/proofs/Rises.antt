@@ -103,19 +103,19 @@ module _ (q : Queue) where
 -- rising, and none below b
 pub data From : ℕ → List ℕ → Type 0 where
   empty : (b : ℕ) → From b []
-  next : (b a : ℕ) (rest : List ℕ) → b ≤ a → From (suc a) rest → From b (a ∷ rest)
+  later : (b a : ℕ) (rest : List ℕ) → b ≤ a → From (suc a) rest → From b (a ∷ rest)
 
 pub lower : (b c : ℕ) (xs : List ℕ) → b ≤ c → From c xs → From b xs
 lower b c xs l (empty _) = empty b
-lower b c xs l (next _ a rest h r) = next b a rest (omega arith) r
+lower b c xs l (later _ a rest h r) = later b a rest (omega arith) r
 
 join : (a : ℕ) (rest : List ℕ) → From (suc a) rest → Rising rest → Rising (a ∷ rest)
 join a rest (empty _) r = one a
-join a rest (next _ c later h _) r = more a c later h r
+join a rest (later _ c others h _) r = more a c others h r
 
 pub from-rising : (b : ℕ) (xs : List ℕ) → From b xs → Rising xs
 from-rising b xs (empty _) = none
-from-rising b xs (next _ a rest h r) = join a rest r (from-rising (suc a) rest r)
+from-rising b xs (later _ a rest h r) = join a rest r (from-rising (suc a) rest r)
 
 run-from : (q : Queue) (cs : List Call) → From (coming q) (attempts q cs)
 run-from q [] = empty (coming q)
@@ -129,7 +129,7 @@ run-from q (c ∷ cs) =
     same xs e k r = rw e (rw k at r)
 
     risen : (xs : List ℕ) → xs ≡ coming q ∷ [] → coming q < coming (after q c) → From (coming (after q c)) (attempts (after q c) cs) → From (coming q) (xs ++ attempts (after q c) cs)
-    risen xs e l r = rw e (next (coming q) (coming q) (attempts (after q c) cs) (omega arith) (lower (suc (coming q)) (coming (after q c)) (attempts (after q c) cs) l r))
+    risen xs e l r = rw e (later (coming q) (coming q) (attempts (after q c) cs) (omega arith) (lower (suc (coming q)) (coming (after q c)) (attempts (after q c) cs) l r))
 
 -- attempts handed out rise, so none is handed out twice
 pub attempts-rise : (q : Queue) (cs : List Call) → Rising (attempts q cs)

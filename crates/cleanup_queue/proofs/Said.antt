@@ -6,7 +6,7 @@ use mathlib.Core.List.{List, [], _∷_}
 use native.Mathlib.Omega.{arith}
 use lib.Dec.{eqb, leb, ltb}
 use lib.ListN.{length}
-use Rattle.choice.specs.Choice.{if_then_else_}
+use Rattle.choice.specs.Choice.{if_then_else_, bit}
 use Rattle.stage.specs.Phases.{isPending, isSettled, isCancelled}
 use Rattle.choice.proofs.Ways.{miss, if-by}
 use Rattle.queue_record.specs.Refusals.{noAttempt, noRetry, hollow}
@@ -49,7 +49,7 @@ use Rattle.queue_stages.specs.declared.stages.CancelAnswer.{CancelAnswer}
 use Rattle.queue_stages.specs.declared.stages.Cancelled.{Cancelled}
 use Rattle.cleanup_queue.specs.Answers.{Said, says, openedSays, registeredSays, poppedSays, completedSays, retriedSays, toldSays, cancelledSays, domainSays}
 use Rattle.cleanup_queue.specs.Orders.{due, firstSaid, RefusedAs, openingOrder, registerOrder, landOrder, freshToken, chosenToken, isHollow}
-use Rattle.cleanup_queue.specs.Orders.{popOrder, freshValues, workValues, completeOrder, retryOrder, renewedValues, brokenOnly, bit, Tells}
+use Rattle.cleanup_queue.specs.Orders.{popOrder, freshValues, workValues, completeOrder, retryOrder, renewedValues, brokenOnly, Tells}
 use Rattle.cleanup_queue.proofs.ByCase.{all-occupied, register-cases, register-by, land-cases, land-by, pop-cases, pop-by, complete-cases, complete-by, retry-cases, retry-by}
 use Rattle.cleanup_queue.proofs.Upstream.{admit-answers, end-answers}
 

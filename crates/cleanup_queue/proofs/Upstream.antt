@@ -12,7 +12,7 @@ use lib.ListN.{length, getD, set, take}
 use lib.Seq.{take-suc-set, take-append-seam}
 use Rattle.choice.specs.Choice.{if_then_else_}
 use Rattle.stage.specs.Bindings.{member}
-use Rattle.stage.specs.Phases.{next, isPending, isSettled, isCancelled}
+use Rattle.stage.specs.Phases.{phaseAfter, isPending, isSettled, isCancelled}
 use Rattle.stage.specs.declared.phases.Phase.{Phase}
 use Rattle.stage.specs.declared.phases.Phase.the-variants.{Idle, Pending, Ended, Stopping, Closed}
 use Rattle.stage.specs.declared.phases.Event.the-variants.{Land, End, Cancel}
@@ -51,10 +51,10 @@ use Rattle.queue_stages.specs.Stages.{refusedStage, afterAdmit, admittedBy, adm
 use Rattle.queue_stages.specs.declared.stages.StageAnswer.{StageAnswer}
 use Rattle.queue_stages.specs.declared.stages.Cancelled.{Cancelled}
 use Rattle.queue_stages.specs.declared.stages.CancelAnswer.{CancelAnswer}
-use Rattle.cleanup_queue.specs.Parts.{Fresh, SameOpening, Leaves, Pushes, TakesNext, TakesBack, Stays}
+use Rattle.cleanup_queue.specs.Parts.{Fresh, SameOpening, LeavesSelected, Pushes, TakesNext, TakesBack, StaysButPhase}
 use Rattle.cleanup_queue.specs.Runs.{Call, register, land, pop, complete, retry, admit, end, cancel, after, Rising}
 use Rattle.cleanup_queue.proofs.ByCase.{register-by, land-by, Popping, pop-by, work-parts, complete-by, retry-by}
-use Rattle.cleanup_queue.proofs.Rises.{From, empty, next as later, lower, from-rising}
+use Rattle.cleanup_queue.proofs.Rises.{From, empty, later, lower, from-rising}
 use Rattle.cleanup_queue.proofs.Finish.{asked-yes, yes-asked, finish-means}
 
 -- ---- local_wf: what well formed says of the waiting tokens
@@ -224,7 +224,7 @@ pub call-keeps-domain : (q : Queue) (c : Call) → after q c .domain ≡ q .doma
 call-keeps-domain q c = call-keeps-opening q c .1
 
 -- ---- register and land
-land-row : (p : Phase) → isPending p ≡ true → (isPending (next p Land) ≡ false) × (isSettled (next p Land) ≡ isCancelled p)
+land-row : (p : Phase) → isPending p ≡ true → (isPending (phaseAfter p Land) ≡ false) × (isSettled (phaseAfter p Land) ≡ isCancelled p)
 land-row Idle h = clash h refl
 land-row Pending h = (refl, refl)
 land-row Ended h = clash h refl
@@ -233,12 +233,12 @@ land-row Closed h = clash h refl
 
 module _ (q : Queue) (n : ℕ) where
   -- Register leaves the selected ticket, both marks, next and the stage (Q96 to Q98, Q108).
-  pub register-leaves : Leaves q (registered q n .queue) × (registered q n .queue .phase ≡ q .phase)
-  register-leaves = register-by (λ (r : RegisterAnswer). Leaves q (r .queue) × (r .queue .phase ≡ q .phase)) q n (λ _. ((refl, refl, refl, refl), refl)) (λ _ _ _. ((refl, refl, refl, refl), refl))
+  pub register-leaves : LeavesSelected q (registered q n .queue) × (registered q n .queue .phase ≡ q .phase)
+  register-leaves = register-by (λ (r : RegisterAnswer). LeavesSelected q (r .queue) × (r .queue .phase ≡ q .phase)) q n (λ _. ((refl, refl, refl, refl), refl)) (λ _ _ _. ((refl, refl, refl, refl), refl))
 
   -- Land leaves the selected ticket, both marks and next (Q132, Q133).
-  pub land-leaves : Leaves q (landed q n .queue)
-  land-leaves = land-by (λ (r : RegisterAnswer). Leaves q (r .queue)) q n (λ _. (refl, refl, refl, refl)) (λ _ _ _ _. (refl, refl, refl, refl))
+  pub land-leaves : LeavesSelected q (landed q n .queue)
+  land-leaves = land-by (λ (r : RegisterAnswer). LeavesSelected q (r .queue)) q n (λ _. (refl, refl, refl, refl)) (λ _ _ _ _. (refl, refl, refl, refl))
 
   pushed : Sized q → q .count < 64 → take (q .count + 1) (set (q .slots) (q .count) n) ≡ take (q .count) (q .slots) ++ (n ∷ [])
   pushed s k = let l : length (q .slots) ≡ 64 = s .slots in rw add-one (take-suc-set (q .slots) (q .count) n (omega arith))
@@ -264,10 +264,10 @@ module _ (q : Queue) (n : ℕ) where
   -- Land answers a token only where the stage was pending; it is not pending afterwards, and settled exactly if it was cancelled, as the table moves it (Q123, Q129, Q130).
   pub land-moves : (token : ℕ) → landed q n .answer ≡ Token token
       → (isPending (q .phase) ≡ true) × (isPending (landed q n .queue .phase) ≡ false) × (isSettled (landed q n .queue .phase)
-      ≡ isCancelled (q .phase)) × (landed q n .queue .phase ≡ next (q .phase) Land)
+      ≡ isCancelled (q .phase)) × (landed q n .queue .phase ≡ phaseAfter (q .phase) Land)
   land-moves =
       land-by (λ (r : RegisterAnswer). (token : ℕ) → r .answer ≡ Token token → (isPending (q .phase) ≡ true) ×
-      (isPending (r .queue .phase) ≡ false) × (isSettled (r .queue .phase) ≡ isCancelled (q .phase)) × (r .queue .phase ≡ next (q .phase) Land)) q n
+      (isPending (r .queue .phase) ≡ false) × (isSettled (r .queue .phase) ≡ isCancelled (q .phase)) × (r .queue .phase ≡ phaseAfter (q .phase) Land)) q n
       (λ m token e. let z : _≡_ {A = ℕ} 0 1 = cc in absurd (omega arith))
       (λ w z p k token e. (p, land-row (q .phase) p .0, land-row (q .phase) p .1, refl))
 
@@ -439,14 +439,14 @@ admit-row Stopping false = refl
 admit-row Closed true = refl
 admit-row Closed false = refl
 
-end-row : (p : Phase) → yesOrNo (isPending p) ≡ Yes → (isPending (next p End) ≡ false) × (isSettled (next p End) ≡ true)
+end-row : (p : Phase) → yesOrNo (isPending p) ≡ Yes → (isPending (phaseAfter p End) ≡ false) × (isSettled (phaseAfter p End) ≡ true)
 end-row Idle h = let z : _≡_ {A = ℕ} 0 1 = cc in absurd (omega arith)
 end-row Pending h = (refl, refl)
 end-row Ended h = let z : _≡_ {A = ℕ} 0 1 = cc in absurd (omega arith)
 end-row Stopping h = (refl, refl)
 end-row Closed h = let z : _≡_ {A = ℕ} 0 1 = cc in absurd (omega arith)
 
-cancel-row : (p : Phase) → (isCancelled (next p Cancel) ≡ true) × (isPending (next p Cancel) ≡ isPending p)
+cancel-row : (p : Phase) → (isCancelled (phaseAfter p Cancel) ≡ true) × (isPending (phaseAfter p Cancel) ≡ isPending p)
 cancel-row Idle = (refl, refl)
 cancel-row Pending = (refl, refl)
 cancel-row Ended = (refl, refl)
@@ -455,30 +455,30 @@ cancel-row Closed = (refl, refl)
 
 module _ (q : Queue) where
   -- Admit leaves all but the phase: the selected ticket, the slots, both marks and next (Q231, Q235, Q236).
-  pub admit-leaves : (matched : Bool) → Stays q (admitted q matched .queue)
+  pub admit-leaves : (matched : Bool) → StaysButPhase q (admitted q matched .queue)
   unfolding admitted
-  admit-leaves matched = if-by (λ (r : StageAnswer). Stays q (r .queue)) (not (wellFormed q)) _ _ (λ _. (refl, refl, refl, refl, refl, refl)) (λ _. (refl, refl, refl, refl, refl, refl))
+  admit-leaves matched = if-by (λ (r : StageAnswer). StaysButPhase q (r .queue)) (not (wellFormed q)) _ _ (λ _. (refl, refl, refl, refl, refl, refl)) (λ _. (refl, refl, refl, refl, refl, refl))
 
   -- So does end (Q240, Q244, Q245).
-  pub end-leaves : Stays q (ended q .queue)
+  pub end-leaves : StaysButPhase q (ended q .queue)
   unfolding ended
-  end-leaves = if-by (λ (r : StageAnswer). Stays q (r .queue)) (not (wellFormed q)) _ _ (λ _. (refl, refl, refl, refl, refl, refl)) (λ _. (refl, refl, refl, refl, refl, refl))
+  end-leaves = if-by (λ (r : StageAnswer). StaysButPhase q (r .queue)) (not (wellFormed q)) _ _ (λ _. (refl, refl, refl, refl, refl, refl)) (λ _. (refl, refl, refl, refl, refl, refl))
 
   -- So does cancel (Q251, Q255, Q256).
-  pub cancel-leaves : Stays q (cancelledBy q .queue)
+  pub cancel-leaves : StaysButPhase q (cancelledBy q .queue)
   unfolding cancelledBy
-  cancel-leaves = if-by (λ (r : CancelAnswer). Stays q (r .queue)) (not (wellFormed q)) _ _ (λ _. (refl, refl, refl, refl, refl, refl)) (λ _. (refl, refl, refl, refl, refl, refl))
+  cancel-leaves = if-by (λ (r : CancelAnswer). StaysButPhase q (r .queue)) (not (wellFormed q)) _ _ (λ _. (refl, refl, refl, refl, refl, refl)) (λ _. (refl, refl, refl, refl, refl, refl))
 
   -- The phase after each is the table's.
   pub admit-moves : (matched : Bool) → wellFormed q ≡ true → admitted q matched .queue .phase ≡ afterAdmit (q .phase) matched
   unfolding admitted
   admit-moves matched w = ap (λ (r : StageAnswer). r .queue .phase) (miss _ (ap not w))
 
-  pub end-moves : wellFormed q ≡ true → ended q .queue .phase ≡ next (q .phase) End
+  pub end-moves : wellFormed q ≡ true → ended q .queue .phase ≡ phaseAfter (q .phase) End
   unfolding ended
   end-moves w = ap (λ (r : StageAnswer). r .queue .phase) (miss _ (ap not w))
 
-  pub cancel-moves : wellFormed q ≡ true → cancelledBy q .queue .phase ≡ next (q .phase) Cancel
+  pub cancel-moves : wellFormed q ≡ true → cancelledBy q .queue .phase ≡ phaseAfter (q .phase) Cancel
   unfolding cancelledBy
   cancel-moves w = ap (λ (r : CancelAnswer). r .queue .phase) (miss _ (ap not w))
 

@@ -14,12 +14,12 @@ use Rattle.cleanup_queue.specs.Answers.{Said, says, openedSays, register
 abbrev ticket : ℕ → ℕ → Ticket
 ticket token attempt = record { domain = 0; token = token; attempt = attempt }
 
-abbrev pub fresh : Queue
-fresh = scopeOf 0 0
+abbrev pub newScope : Queue
+newScope = scopeOf 0 0
 
 -- W2's queue
 abbrev pub two : Queue
-two = registered (registered fresh 71 .queue) 72 .queue
+two = registered (registered newScope 71 .queue) 72 .queue
 
 abbrev pub out : Queue
 out = popped two .queue
@@ -62,25 +62,25 @@ pending = admitted iterator (matches iterator (9 ∷ 4 ∷ 9 ∷ [])) .queue
 
 -- a queue after n registers of 5
 abbrev pub registers : ℕ → Queue
-registers zero = fresh
+registers zero = newScope
 registers (suc n) = registered (registers n) 5 .queue
 
 -- ---- the table
-pub record Row : Type 0 where
+pub record MarkedCase : Type 0 where
   -- the number of the case
   pub marked : ℕ
   pub definition : Said
   pub paper : Said
 
-abbrev row : ℕ → Said → Said → Row
+abbrev row : ℕ → Said → Said → MarkedCase
 row n d p = record { marked = n; definition = d; paper = p }
 
 abbrev nothing : Said
 nothing = says 0 []
 
-abbrev pub table : List Row
+abbrev pub table : List MarkedCase
 table =
-    row 1 (poppedSays (popped fresh .answer)) nothing ∷
+    row 1 (poppedSays (popped newScope .answer)) nothing ∷
     row 2 (poppedSays (popped two .answer)) (says 0 (0 ∷ 1 ∷ 0 ∷ 72 ∷ [])) ∷
     row 3 (poppedSays (popped out .answer)) nothing ∷
     row 4 (completedSays (completed out (ticket 1 0) 1 72 .answer)) (says 0 []) ∷
@@ -105,10 +105,10 @@ table =
     row 12 (registeredSays (registered (registers 64) 6 .answer)) (says 3 (6 ∷ [])) ∷
     []
 
-abbrev pub defined : List Row → List Said
-defined [] = []
-defined (r ∷ rs) = r .definition ∷ defined rs
+abbrev pub definitionSays : List MarkedCase → List Said
+definitionSays [] = []
+definitionSays (r ∷ rs) = r .definition ∷ definitionSays rs
 
-abbrev pub written : List Row → List Said
-written [] = []
-written (r ∷ rs) = r .paper ∷ written rs
+abbrev pub paperSays : List MarkedCase → List Said
+paperSays [] = []
+paperSays (r ∷ rs) = r .paper ∷ paperSays rs

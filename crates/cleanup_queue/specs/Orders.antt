@@ -5,7 +5,7 @@ use mathlib.Core.Bool.{Bool, true, false, not, _&&_}
 use mathlib.Core.List.{List, [], _∷_}
 use lib.Dec.{eqb, leb, ltb}
 use lib.ListN.{length}
-use Rattle.choice.specs.Choice.{if_then_else_}
+use Rattle.choice.specs.Choice.{if_then_else_, bit}
 use Rattle.stage.specs.Phases.{isPending}
 use Rattle.queue_record.specs.Refusals.{done, broken, badNumber, noSlot, notPending, noAttempt, notOut, keptOnDone, noRetry, hollow, badOutcome, tooManyBindings}
 use Rattle.queue_record.specs.WellFormed.{wellFormed}
@@ -24,20 +24,20 @@ use Rattle.queue_questions.specs.declared.questions.Told.{Told}
 use Rattle.cleanup_queue.specs.Answers.{Said, says, toldSays}
 
 -- a refusal's number, and whether what it is given for is the case
-pub record Due : Type 0 where
+pub record Ground : Type 0 where
   pub number : ℕ
   pub case : Bool
 
-abbrev pub due : ℕ → Bool → Due
+abbrev pub due : ℕ → Bool → Ground
 due n b = record { number = n; case = b }
 
 -- the first that is due; 0, done, where none is
-abbrev pub firstDue : List Due → ℕ
+abbrev pub firstDue : List Ground → ℕ
 firstDue [] = done
 firstDue (d ∷ ds) = if d .case then d .number else firstDue ds
 
 -- what a call says: the first that is due with the values given back; 0, done, with the call's own values where none is
-abbrev pub firstSaid : List Due → List ℕ → List ℕ → Said
+abbrev pub firstSaid : List Ground → List ℕ → List ℕ → Said
 firstSaid [] back own = says done own
 firstSaid (d ∷ ds) back own = if d .case then says (d .number) back else firstSaid ds back own
 
@@ -46,11 +46,11 @@ abbrev pub RefusedAs : Queue → List ℕ → Said → Queue → Type 0
 RefusedAs q back s p = (s .number ≡ 0 → ⊥) → (s .values ≡ back) × (p ≡ q)
 
 -- an iterator's opening 14
-abbrev pub openingOrder : List ℕ → List Due
+abbrev pub openingOrder : List ℕ → List Ground
 openingOrder bindings = due tooManyBindings (ltb 16 (length bindings)) ∷ []
 
 -- register 1, 2, 3
-abbrev pub registerOrder : Queue → ℕ → List Due
+abbrev pub registerOrder : Queue → ℕ → List Ground
 registerOrder q number =
     due broken (not (wellFormed q)) ∷
     due badNumber (eqb number 0) ∷
@@ -58,7 +58,7 @@ registerOrder q number =
     []
 
 -- land 1, 2, 4, 3
-abbrev pub landOrder : Queue → ℕ → List Due
+abbrev pub landOrder : Queue → ℕ → List Ground
 landOrder q number =
     due broken (not (wellFormed q)) ∷
     due badNumber (eqb number 0) ∷
@@ -85,7 +85,7 @@ isHollow q Missing = false
 isHollow q (At k) = eqb (slot q k) 0
 
 -- pop 1, 9, 5
-abbrev pub popOrder : Queue → List Due
+abbrev pub popOrder : Queue → List Ground
 popOrder q =
     due broken (not (wellFormed q)) ∷
     due hollow (isHollow q (chosenToken (q .issued) (q .failed) (q .selection) (waiting q))) ∷
@@ -105,7 +105,7 @@ workValues q false false (Of t) = t .domain ∷ t .token ∷ t .attempt ∷ slot
 workValues q false false Free = freshValues q (newest (waiting q))
 
 -- complete 1, 15, 6, 7
-abbrev pub completeOrder : Queue → Ticket → ℕ → ℕ → List Due
+abbrev pub completeOrder : Queue → Ticket → ℕ → ℕ → List Ground
 completeOrder q t outcome kept =
     due broken (not (wellFormed q)) ∷
     due badOutcome (ltb 1 outcome) ∷
@@ -114,7 +114,7 @@ completeOrder q t outcome kept =
     []
 
 -- retry 1, 8
-abbrev pub retryOrder : Queue → List Due
+abbrev pub retryOrder : Queue → List Ground
 retryOrder q =
     due broken (not (wellFormed q)) ∷
     due noRetry (not (retryAllowed q (q .selection))) ∷
@@ -126,12 +126,8 @@ renewedValues q Free = []
 renewedValues q (Of t) = t .domain ∷ t .token ∷ q .next ∷ []
 
 -- yes-or-no calls refuse only with 1
-abbrev pub brokenOnly : Queue → List Due
+abbrev pub brokenOnly : Queue → List Ground
 brokenOnly q = due broken (not (wellFormed q)) ∷ []
-
--- yes is 1 and no is 0
-abbrev pub bit : Bool → ℕ
-bit b = if b then 1 else 0
 
 -- an answer says 1 where the record is not well formed, and 0 otherwise
 abbrev pub OnlyBroken : Queue → Told → Type 0

@@ -26,8 +26,8 @@ SameOpening q p = (p .kind ≡ q .kind) × (p .domain ≡ q .domain) × (p .bind
 
 -- ---- register and land of a number
 -- the selected ticket, both marks and next stay
-abbrev pub Leaves : Queue → Queue → Type 0
-Leaves q p = (p .selection ≡ q .selection) × (p .failed ≡ q .failed) × (p .issued ≡ q .issued) × (p .next ≡ q .next)
+abbrev pub LeavesSelected : Queue → Queue → Type 0
+LeavesSelected q p = (p .selection ≡ q .selection) × (p .failed ≡ q .failed) × (p .issued ≡ q .issued) × (p .next ≡ q .next)
 
 -- the token is the number of slots in use, these get the number behind them, and no other place is stored to
 abbrev pub Pushes : Queue → ℕ → RegisterAnswer → Type 0
@@ -53,5 +53,5 @@ TakesBack q t outcome kept p = (p .issued ≡ false) × (p .slots ≡ set (q .sl
 
 -- ---- admit, end and cancel
 -- all but the phase stays
-abbrev pub Stays : Queue → Queue → Type 0
-Stays q p = (p .selection ≡ q .selection) × (p .slots ≡ q .slots) × (p .count ≡ q .count) × (p .issued ≡ q .issued) × (p .failed ≡ q .failed) × (p .next ≡ q .next)
+abbrev pub StaysButPhase : Queue → Queue → Type 0
+StaysButPhase q p = (p .selection ≡ q .selection) × (p .slots ≡ q .slots) × (p .count ≡ q .count) × (p .issued ≡ q .issued) × (p .failed ≡ q .failed) × (p .next ≡ q .next)

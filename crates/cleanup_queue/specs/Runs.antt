@@ -64,20 +64,20 @@ abbrev pub tokenOf : Registered → List ℕ
 tokenOf (Token token) = token ∷ []
 tokenOf (Registered.Refused n given) = []
 
-abbrev pub bornBy : Queue → Call → List ℕ
-bornBy q (register number) = tokenOf (registered q number .answer)
-bornBy q (land number) = tokenOf (landed q number .answer)
-bornBy q pop = []
-bornBy q (complete ticket outcome kept) = []
-bornBy q retry = []
-bornBy q (admit matched) = []
-bornBy q end = []
-bornBy q cancel = []
+abbrev pub tokensBornBy : Queue → Call → List ℕ
+tokensBornBy q (register number) = tokenOf (registered q number .answer)
+tokensBornBy q (land number) = tokenOf (landed q number .answer)
+tokensBornBy q pop = []
+tokensBornBy q (complete ticket outcome kept) = []
+tokensBornBy q retry = []
+tokensBornBy q (admit matched) = []
+tokensBornBy q end = []
+tokensBornBy q cancel = []
 
 -- the tokens that a run gives, in order
 abbrev pub tokens : Queue → List Call → List ℕ
 tokens q [] = []
-tokens q (c ∷ cs) = bornBy q c ++ tokens (after q c) cs
+tokens q (c ∷ cs) = tokensBornBy q c ++ tokens (after q c) cs
 
 -- each is larger than the one before
 pub data Rising : List ℕ → Type 0 where

@@ -5,7 +5,7 @@ use mathlib.Core.Bool.{true}
 use borrow.Author.Tests.{le-leb, leb-true}
 use Rattle.choice.proofs.Ways.{pass}
 use Rattle.queue_record.proofs.Fit.{all-at}
-use Rattle.group_check.specs.WellFormed.{lastBase, ids, distinctIds, idsBelow, queuesFit, freeFits, sealedFits, clauses, wellGrouped}
+use Rattle.group_check.specs.WellFormed.{lastBase, ids, distinctIds, idsBelow, queuesFit, freeFits, sealedFits, groupClauses, wellGrouped}
 use Rattle.group_record.specs.declared.record.Groups.{Groups}
 
 pub record Fit (g : Groups) : Type 0 where
@@ -20,13 +20,13 @@ pub record Fit (g : Groups) : Type 0 where
 pub fit : (g : Groups) → wellGrouped g ≡ true → Fit g
 unfolding wellGrouped
 fit g h = record {
-  base = leb-true _ _ (all-at (clauses g) 0 h);
-  next = leb-true _ _ (all-at (clauses g) 1 h);
-  distinct = all-at (clauses g) 2 h;
-  below = all-at (clauses g) 3 h;
-  queues = all-at (clauses g) 4 h;
-  free = all-at (clauses g) 5 h;
-  sealed = all-at (clauses g) 6 h;
+  base = leb-true _ _ (all-at (groupClauses g) 0 h);
+  next = leb-true _ _ (all-at (groupClauses g) 1 h);
+  distinct = all-at (groupClauses g) 2 h;
+  below = all-at (groupClauses g) 3 h;
+  queues = all-at (groupClauses g) 4 h;
+  free = all-at (groupClauses g) 5 h;
+  sealed = all-at (groupClauses g) 6 h;
 }
 
 pub fits : (g : Groups) → Fit g → wellGrouped g ≡ true

@@ -53,8 +53,8 @@ freeFits g = not (someYes g Littered [])
 abbrev pub sealedFits : Groups → Bool
 sealedFits g = implies (g .sealed) (not (someYes g Live []))
 
-abbrev pub clauses : Groups → List Bool
-clauses g =
+abbrev pub groupClauses : Groups → List Bool
+groupClauses g =
     baseFits (g .base) ∷
     nextFits (g .next) ∷
     distinctIds (g .places) ∷
@@ -65,4 +65,4 @@ clauses g =
     []
 
 unfoldable pub wellGrouped : Groups → Bool
-wellGrouped g = allTrue (clauses g)
+wellGrouped g = allTrue (groupClauses g)

@@ -13,7 +13,7 @@ use Rattle.group_check.specs.Ids.{spotOf}
 use Rattle.group_record.specs.declared.record.Groups.{Groups}
 use Rattle.group_asking.specs.declared.questions.Question.the-variants.{Undrained}
 use Rattle.group_check.specs.declared.ids.Spot.{Spot}
-use Rattle.group_lives.specs.Openings.{unsealed}
+use Rattle.group_openings.specs.Openings.{unsealed}
 use Rattle.group_endings.specs.declared.endings.Closed.{Closed}
 use Rattle.group_endings.specs.declared.endings.Closed.the-variants.{Done}
 use Rattle.group_endings.specs.declared.endings.CloseAnswer.{CloseAnswer}

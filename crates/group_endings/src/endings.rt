@@ -5,7 +5,7 @@ use group_asking::some;
 use group_check::Spot;
 use group_check::look_up;
 use group_check::queue_at;
-use group_lives::is_unsealed;
+use group_openings::is_unsealed;
 use group_record::Groups;
 use group_record::free_place;
 use group_record::put_place;

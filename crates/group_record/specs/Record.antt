@@ -43,12 +43,12 @@ withQueue g i q = withPlace g i (holding (placeAt g i) q)
 abbrev pub withPlaces : Groups → List Place → Groups
 withPlaces g ps = record { base = g .base; next = g .next; sealed = g .sealed; places = ps }
 
-abbrev pub withNext : Groups → ℕ → Groups
-withNext g n = record { base = g .base; next = n; sealed = g .sealed; places = g .places }
+abbrev pub withNextId : Groups → ℕ → Groups
+withNextId g n = record { base = g .base; next = n; sealed = g .sealed; places = g .places }
 
 -- a group more in the place i: its id is next, which rises by 1, so that no id comes again
-abbrev pub opening : Groups → ℕ → Queue → Groups
-opening g i q = withNext (withPlace g i (livePlace (g .next) q)) (g .next + 1)
+abbrev pub withOpened : Groups → ℕ → Queue → Groups
+withOpened g i q = withNextId (withPlace g i (livePlace (g .next) q)) (g .next + 1)
 
 -- an empty group record
 unfoldable pub emptyOf : ℕ → Groups

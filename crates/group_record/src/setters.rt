@@ -5,7 +5,7 @@ use queue_record::Queue;
 use queue_record::blank;
 ghost use mathlib.Core.Path.{_≡_};
 ghost use Prim.Native.Nat.{_<_};
-ghost use Rattle.group_record.specs.Record.{freePlace, livePlace, emptyOf, withPlace, withQueue, opening, sealing};
+ghost use Rattle.group_record.specs.Record.{freePlace, livePlace, emptyOf, withPlace, withQueue, withOpened, sealing};
 
 pub fn free_place() -> Place
     ensures { λ r. ⌜ r ≡ freePlace ⌝ }
@@ -74,7 +74,7 @@ pub fn put_queue(g: Groups, at: usize, queue: Queue) -> Groups
 // One group more, and next rises by 1.
 pub fn put_new(g: Groups, at: usize, queue: Queue) -> Groups
     requires { ⌜ (at < 16) × (g .next < 65536) ⌝ }
-    ensures { λ r. ⌜ r ≡ opening g at queue ⌝ }
+    ensures { λ r. ⌜ r ≡ withOpened g at queue ⌝ }
 {
     let id = g.next;
     let place = live_place(id, queue);

@@ -15,15 +15,15 @@ use Rattle.group_check.specs.declared.ids.Spot.{Spot}
 use Rattle.group_stages.specs.declared.stages.GroupStageAnswer.{GroupStageAnswer}
 use Rattle.group_stages.specs.declared.stages.GroupCancelAnswer.{GroupCancelAnswer}
 
-abbrev pub refusedStage : Groups → ℕ → GroupStageAnswer
-refusedStage g refusal = record { answer = Told.Refused refusal; groups = g }
+abbrev pub refusedGroupStage : Groups → ℕ → GroupStageAnswer
+refusedGroupStage g refusal = record { answer = Told.Refused refusal; groups = g }
 
 -- what a stage call of the queue at the place i answers and leaves
 abbrev pub movedAt : Groups → ℕ → StageAnswer → GroupStageAnswer
 movedAt g i step = record { answer = step .answer; groups = withQueue g i (step .queue) }
 
 abbrev pub admittedAt : Groups → List ℕ → Spot → GroupStageAnswer
-admittedAt g target (Spot.Refused refusal) = refusedStage g refusal
+admittedAt g target (Spot.Refused refusal) = refusedGroupStage g refusal
 admittedAt g target (Spot.At i) = movedAt g i (admitted (queueAt g i) (matches (queueAt g i) target))
 
 -- admit with a target: 1, 10
@@ -31,7 +31,7 @@ unfoldable pub admittedIn : Groups → ℕ → List ℕ → GroupStageAnswer
 admittedIn g id target = admittedAt g target (spotOf g id)
 
 abbrev pub admittedAtWithout : Groups → Spot → GroupStageAnswer
-admittedAtWithout g (Spot.Refused refusal) = refusedStage g refusal
+admittedAtWithout g (Spot.Refused refusal) = refusedGroupStage g refusal
 admittedAtWithout g (Spot.At i) = movedAt g i (admitted (queueAt g i) false)
 
 -- admit without one: 1, 10
@@ -39,7 +39,7 @@ unfoldable pub admittedInWithout : Groups → ℕ → GroupStageAnswer
 admittedInWithout g id = admittedAtWithout g (spotOf g id)
 
 abbrev pub endedAt : Groups → Spot → GroupStageAnswer
-endedAt g (Spot.Refused refusal) = refusedStage g refusal
+endedAt g (Spot.Refused refusal) = refusedGroupStage g refusal
 endedAt g (Spot.At i) = movedAt g i (ended (queueAt g i))
 
 -- end: 1, 10

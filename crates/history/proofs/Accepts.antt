@@ -17,7 +17,7 @@ use Rattle.log_language.proofs.FirstBad.{bad-place-stop, words-belong}
 use Rattle.log_reader.specs.Reader.{endOf, settingOf, reading, readSays, ReadsAs, refusedOpening, badAt, goodLog}
 use Rattle.log_reader.specs.declared.reading.Read.{Read}
 use Rattle.log_reader.specs.declared.reading.Reading.{Reading}
-use Rattle.history.specs.Histories.{Bench, Start, History, opens, calls, wordsOf, rowsOf, setting, openedQueue, Leaves, LeftBy}
+use Rattle.history.specs.Histories.{Bench, Start, History, opens, calls, wordsWritten, rowsOf, setting, openedQueue, Leaves, LeftBy}
 use Rattle.history.proofs.Spoken.{Stands, stands, history-belongs, history-ends}
 use Rattle.history.proofs.Demand.{language-spoken}
 
@@ -27,16 +27,16 @@ unrefused s _ (opens e) = e
 unrefused s _ (calls {b} h c a) = unrefused s b h
 
 -- the words that a history leaves are whole rows, and belong
-history-words : (s : Start) (b : Bench) → History s b → WordsBelong (setting s) (wordsOf b)
+history-words : (s : Start) (b : Bench) → History s b → WordsBelong (setting s) (wordsWritten b)
 history-words s b h =
     let w : b .used * 5 ≤ length (b .log) = stands s b h .within in
-    let t : length (wordsOf b) ≡ b .used * 5 = length-take-le (b .used * 5) (b .log) w in
-    record { whole = drop-of-length-le (wordsOf b) {i = length (wordsOf b) / 5 * 5} (omega arith); rowsBelong = history-belongs s b h }
+    let t : length (wordsWritten b) ≡ b .used * 5 = length-take-le (b .used * 5) (b .log) w in
+    record { whole = drop-of-length-le (wordsWritten b) {i = length (wordsWritten b) / 5 * 5} (omega arith); rowsBelong = history-belongs s b h }
 
 -- of what a history leaves the reader says: good, as many rows as were written, and the record in the bench's hands
-pub history-read : (s : Start) (b : Bench) → History s b → (r : Reading) → ReadsAs (s .opening) (wordsOf b) r → r ≡ reading (Read.Good (b .used)) (b .queue)
+pub history-read : (s : Start) (b : Bench) → History s b → (r : Reading) → ReadsAs (s .opening) (wordsWritten b) r → r ≡ reading (Read.Good (b .used)) (b .queue)
 history-read s b h r (refusedOpening e) = let o = unrefused s b h in let z : _≡_ {A = ℕ} 0 1 = cc in absurd (omega arith)
-history-read s b h r (badAt place o bad) = absurd (bad-place-stop (setting s) (wordsOf b) place .0 bad .1 (history-words s b h))
+history-read s b h r (badAt place o bad) = absurd (bad-place-stop (setting s) (wordsWritten b) place .0 bad .1 (history-words s b h))
 history-read s b h r (goodLog o w) = ap (λ (n : ℕ). reading (Read.Good n) (endOf (openedQueue s) (rowsOf b))) (stands s b h .counted) ∙ ap (reading (Read.Good (b .used))) (sym (history-ends s b h))
 
 -- of a log with a bad row it gives the record that any history leaves which wrote the rows before that row
@@ -57,9 +57,9 @@ module _ (o : Opening) (log : List ℕ) where
       let whole = words-belong (settingOf o) log .0 w in
       let l : Leaves (from log) (rows log) = language-spoken (from log) u (rows log) (w .rowsBelong) (omega arith) in
       let i : Stands (from log) (l .end) = stands (from log) (l .end) (l .history) in
-      let t : length (wordsOf (l .end)) ≡ l .end .used * 5 = length-take-le (l .end .used * 5) (l .end .log) (i .within) in
+      let t : length (wordsWritten (l .end)) ≡ l .end .used * 5 = length-take-le (l .end .used * 5) (l .end .log) (i .within) in
       let u : l .end .used ≡ length (rows log) = l .used in
-      record { memory = log; end = l .end; history = l .history; words = same-words (l .end .used) (wordsOf (l .end)) log t (omega arith) (l .wrote) }
+      record { memory = log; end = l .end; history = l .history; words = same-words (l .end .used) (wordsWritten (l .end)) log t (omega arith) (l .wrote) }
 
   good : (r : Reading) → ReadsAs o log r → readSays (r .answer) .0 ≡ done → LeftBy o log
   good r (refusedOpening {n} e) z = absurd (omega (arith, opened-refused n o e .0))

@@ -3,7 +3,7 @@ use Prim.Native.Nat.{ℕ, zero, suc, _+_}
 use mathlib.Core.Path.{_≡_, refl, sym, ap, _∙_}
 use mathlib.Core.Bool.{Bool, true, false, not, _&&_}
 use mathlib.Core.List.{[], _∷_}
-use Rattle.stage.specs.Phases.{next, differs, isPending}
+use Rattle.stage.specs.Phases.{phaseAfter, differs, isPending}
 use Rattle.stage.specs.declared.phases.Phase.{Phase}
 use Rattle.stage.specs.declared.phases.Event.{Event}
 use Rattle.stage.specs.declared.phases.Event.the-variants.{Admit, End, Cancel}
@@ -113,26 +113,26 @@ module _ (b : Bench) (w : wellFormed (b .queue) ≡ true) (p : Put (b .log) (b .
   told-entry kind was is true = refl
   told-entry kind was is false = refl
 
-  admit-entry : entryOf q (admit true) ≡ entry done (differs (q .phase) (next (q .phase) Admit)) (stageRow admitKind)
+  admit-entry : entryOf q (admit true) ≡ entry done (differs (q .phase) (phaseAfter (q .phase) Admit)) (stageRow admitKind)
   unfolding admitted
   admit-entry =
       ap (λ (x : StageAnswer). stageEntry admitKind (q .phase) (x .queue .phase) (x .answer)) (miss _ (ap not w))
-      ∙ told-entry admitKind (q .phase) (next (q .phase) Admit) (isPending (next (q .phase) Admit))
+      ∙ told-entry admitKind (q .phase) (phaseAfter (q .phase) Admit) (isPending (phaseAfter (q .phase) Admit))
 
-  end-entry : entryOf q end ≡ entry done (differs (q .phase) (next (q .phase) End)) (stageRow endKind)
+  end-entry : entryOf q end ≡ entry done (differs (q .phase) (phaseAfter (q .phase) End)) (stageRow endKind)
   unfolding ended
-  end-entry = ap (λ (x : StageAnswer). stageEntry endKind (q .phase) (x .queue .phase) (x .answer)) (miss _ (ap not w)) ∙ told-entry endKind (q .phase) (next (q .phase) End) (isPending (q .phase))
+  end-entry = ap (λ (x : StageAnswer). stageEntry endKind (q .phase) (x .queue .phase) (x .answer)) (miss _ (ap not w)) ∙ told-entry endKind (q .phase) (phaseAfter (q .phase) End) (isPending (q .phase))
 
-  cancel-entry : entryOf q cancel ≡ entry done (differs (q .phase) (next (q .phase) Cancel)) (stageRow cancelKind)
+  cancel-entry : entryOf q cancel ≡ entry done (differs (q .phase) (phaseAfter (q .phase) Cancel)) (stageRow cancelKind)
   unfolding cancelledBy
   cancel-entry = ap (λ (x : CancelAnswer). cancelEntry (q .phase) (x .queue .phase) (x .answer)) (miss _ (ap not w))
 
-  moves-of : (e : Event) (k : ℕ) → r .kind ≡ k → replayedStage q e r .fits ≡ true → (differs (q .phase) (next (q .phase) e) ≡ true) × (rowOf k 0 0 0 0 ≡ r)
+  moves-of : (e : Event) (k : ℕ) → r .kind ≡ k → replayedStage q e r .fits ≡ true → (differs (q .phase) (phaseAfter (q .phase) e) ≡ true) × (rowOf k 0 0 0 0 ≡ r)
   moves-of e k kind h =
-      let m = and-right (wellFormed q) (differs (q .phase) (next (q .phase) e) && sameRow (rowOf (r .kind) 0 0 0 0) r) h in
-      (and-left (differs (q .phase) (next (q .phase) e)) _ m, ap (λ (x : ℕ). rowOf x 0 0 0 0) (sym kind) ∙ one-row (rowOf (r .kind) 0 0 0 0) r (and-right (differs (q .phase) (next (q .phase) e)) _ m))
+      let m = and-right (wellFormed q) (differs (q .phase) (phaseAfter (q .phase) e) && sameRow (rowOf (r .kind) 0 0 0 0) r) h in
+      (and-left (differs (q .phase) (phaseAfter (q .phase) e)) _ m, ap (λ (x : ℕ). rowOf x 0 0 0 0) (sym kind) ∙ one-row (rowOf (r .kind) 0 0 0 0) r (and-right (differs (q .phase) (phaseAfter (q .phase) e)) _ m))
 
-  writes-stage : (c : Call) (e : Event) (k : ℕ) → entryOf q c ≡ entry done (differs (q .phase) (next (q .phase) e)) (stageRow k)
+  writes-stage : (c : Call) (e : Event) (k : ℕ) → entryOf q c ≡ entry done (differs (q .phase) (phaseAfter (q .phase) e)) (stageRow k)
       → fits c ≡ true → r .kind ≡ k → replayedStage q e r .fits ≡ true → Writes b r
   writes-stage c e k is words kind h = let m = moves-of e k kind h in writes-by c _ is refl (m .0) (m .1) (λ _ _. words)
 

@@ -30,13 +30,13 @@ use Rattle.log_entries.specs.Noting.{noted}
 use Rattle.log_births.specs.Births.{registerRecorded, landRecorded}
 use Rattle.log_attempts.specs.Attempts.{popRecorded, completeRecorded, retryRecorded}
 use Rattle.log_stages.specs.Stages.{admitRecorded, endRecorded, cancelRecorded}
-use Rattle.history.specs.Histories.{Bench, bench, called, numberOf, Start, History, opens, calls, Made, none, one, rowsOf, openedQueue}
+use Rattle.history.specs.Histories.{Bench, bench, called, numberOf, Start, History, opens, calls, Made, noCall, oneCall, rowsOf, openedQueue}
 use Rattle.history.proofs.Exhibit.{lent, shown, ofEachKind}
 
 -- ---- calls that are made lead from a history to a history
 pub made-history : {s : Start} {a b : Bench} {cs : List Call} → History s a → Made a cs b → History s b
-made-history h none = h
-made-history h (one {c = c} e m) = made-history (calls h c e) m
+made-history h noCall = h
+made-history h (oneCall {c = c} e m) = made-history (calls h c e) m
 
 -- one call, accepted, that leads from one bench to the next
 record Goes (a : Bench) (c : Call) (b : Bench) : Type 0 where
@@ -44,7 +44,7 @@ record Goes (a : Bench) (c : Call) (b : Bench) : Type 0 where
   leaves : called a c ≡ b
 
 before : {a b z : Bench} {c : Call} {cs : List Call} → Goes a c b → Made b cs z → Made a (c ∷ cs) z
-before {z = z} {cs = cs} g m = one (g .accepted) (subst (λ (x : Bench). Made x cs z) (sym (g .leaves)) m)
+before {z = z} {cs = cs} g m = oneCall (g .accepted) (subst (λ (x : Bench). Made x cs z) (sym (g .leaves)) m)
 
 -- ---- the bench at each step
 abbrev ticket : ℕ → ℕ → Ticket
@@ -119,7 +119,7 @@ abbrev pub closed : Bench
 closed = behind 12 (at 8 2 0 0 (Of (ticket 0 7)) false true Closed)
 
 all-made : Made (behind 0 (at 5 0 0 0 Free false false Idle)) callsMade closed
-all-made = before step1 (before step2 (before step3 (before step4 (before step5 (before step6 (before step7 (before step8 (before step9 (before step10 (before step11 (before step12 none)))))))))))
+all-made = before step1 (before step2 (before step3 (before step4 (before step5 (before step6 (before step7 (before step8 (before step9 (before step10 (before step11 (before step12 noCall)))))))))))
 
 -- these twelve calls, of all eight kinds, are accepted one after the other, and leave exactly these twelve rows
 pub each-kind-called : Made (bench (openedQueue shown) 0 lent) callsMade closed × (rowsOf closed ≡ ofEachKind)

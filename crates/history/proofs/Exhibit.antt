@@ -7,7 +7,7 @@ use Rattle.queue_record.specs.Openings.{headingOf, openingOf, iteratorOpened}
 use Rattle.queue_record.specs.declared.record.Kind.{Kind}
 use Rattle.log_rows.specs.Rows.{rowOf}
 use Rattle.log_rows.specs.declared.Row.{Row}
-use Rattle.log_language.specs.RowKinds.{kindAt}
+use Rattle.log_language.specs.RowKinds.{rowKindAt}
 use Rattle.log_language.specs.Language.{Belongs}
 use Rattle.log_language.proofs.FirstBad.{belongs-stop}
 use Rattle.history.specs.Histories.{Start, setting, Leaves}
@@ -32,7 +32,7 @@ ofEachKind =
     []
 
 each-belongs : Belongs (setting shown) ofEachKind
-unfolding kindAt
+unfolding rowKindAt
 each-belongs = belongs-stop (setting shown) ofEachKind .1 refl
 
 -- a history that leaves them

@@ -22,7 +22,7 @@ use Rattle.log_language.specs.Language.{Belongs}
 use Rattle.log_language.proofs.Core.{one-more-may}
 use Rattle.log_language.proofs.Lists.{snoc-ind, every-snoc}
 use Rattle.queue_record.proofs.Opened.{iterator-open}
-use Rattle.history.specs.Histories.{Bench, bench, called, numberOf, Start, History, opens, calls, Made, none, one, openedQueue, setting}
+use Rattle.history.specs.Histories.{Bench, bench, called, numberOf, Start, History, opens, calls, Made, noCall, oneCall, openedQueue, setting}
 use Rattle.history.specs.Fits.{isWord, fits, rowFits, LeftByFitting}
 use Rattle.history.proofs.Steps.{step}
 use Rattle.history.proofs.Spoken.{stands}
@@ -43,8 +43,8 @@ history-domain s _ (calls {b} h c a) =
 
 -- one call more behind the others
 made-more : {a b : Bench} {cs : List Call} → Made a cs b → (c : Call) → numberOf b c ≡ done → Made a (cs ++ (c ∷ [])) (called b c)
-made-more none c h = one h none
-made-more (one e m) c h = one e (made-more m c h)
+made-more noCall c h = oneCall h noCall
+made-more (oneCall e m) c h = oneCall e (made-more m c h)
 
 module _ (s : Start) (unrefused : openedAs (s .opening) .answer ≡ Opened.Open) (word : isWord (s .opening .heading .domain) ≡ true) where
   abbrev Spoken : List Row → Type 0
@@ -52,7 +52,7 @@ module _ (s : Start) (unrefused : openedAs (s .opening) .answer ≡ Opened.Open)
 
   first-of : Spoken []
   unfolding rows
-  first-of f b l = record { calls = []; fitting = refl; end = bench (openedQueue s) 0 (s .memory); made = none; wrote = refl }
+  first-of f b l = record { calls = []; fitting = refl; end = bench (openedQueue s) 0 (s .memory); made = noCall; wrote = refl }
 
   one-more : (rs : List Row) (r : Row) → Spoken rs → Spoken (rs ++ (r ∷ []))
   one-more rs r ih f b l =

@@ -3,7 +3,7 @@ use Prim.Native.Nat.{ℕ}
 use mathlib.Core.Path.{_≡_, refl, sym, ap, _∙_}
 use mathlib.Core.Bool.{Bool, true, false, not}
 use borrow.Author.Tests.{eq-eqb}
-use Rattle.stage.specs.Phases.{next, phaseNumber, differs}
+use Rattle.stage.specs.Phases.{phaseAfter, phaseNumber, differs}
 use Rattle.stage.specs.declared.phases.Phase.{Phase}
 use Rattle.stage.specs.declared.phases.Event.{Event}
 use Rattle.stage.specs.declared.phases.Event.the-variants.{Admit, End, Cancel}
@@ -111,7 +111,7 @@ module _ (q : Queue) where
     still : (p : Phase) → differs p p ≡ false
     still p = ap not (eq-eqb (phaseNumber p) (phaseNumber p) refl)
 
-    stage-fits : (e : Event) (k : ℕ) → differs (q .phase) (next (q .phase) e) ≡ true → replayedStage q e (rowOf k 0 0 0 0) .fits ≡ true
+    stage-fits : (e : Event) (k : ℕ) → differs (q .phase) (phaseAfter (q .phase) e) ≡ true → replayedStage q e (rowOf k 0 0 0 0) .fits ≡ true
     stage-fits e k d = pass _ w ∙ (pass _ d ∙ self-same (rowOf k 0 0 0 0))
 
     admit-row : (m : Bool) → differs (q .phase) (after q (admit m) .phase) ≡ true → Replays q (rowOf 5 0 0 0 0) (after q (admit m))

@@ -18,35 +18,35 @@ use Rattle.log_reader.specs.declared.reading.Read.{Read}
 use Rattle.queue_words.specs.Words.{word}
 use Rattle.queue_words.specs.Exported.{openNumber, bornSaid, popSaid, completeSaid, retrySaid, toldSaid, cancelSaid, domainSaid}
 use Rattle.gulberzan_c.specs.ReadBack.{readSaid}
-use Rattle.library_laws.specs.Values.{Tells}
+use Rattle.library_laws.specs.Values.{TellsWords}
 
 pub opening-tells : (a : Opened) → openNumber a ≡ openedSays a .number
 opening-tells Opened.Open = refl
 opening-tells (Opened.Refused n) = refl
 
 module _ (ws : List ℕ) where
-  pub born-tells : (a : Registered) → Tells (bornSaid a ws) (registeredSays a)
+  pub born-tells : (a : Registered) → TellsWords (bornSaid a ws) (registeredSays a)
   born-tells (Registered.Token t) = record { number = refl; values = refl }
   born-tells (Registered.Refused n given) = record { number = refl; values = refl }
 
-  pub pop-tells : (a : Popped) → Tells (popSaid a ws) (poppedSays a)
+  pub pop-tells : (a : Popped) → TellsWords (popSaid a ws) (poppedSays a)
   pop-tells (Popped.Work t n) = record { number = refl; values = refl }
   pop-tells Popped.Nothing = record { number = refl; values = refl }
   pop-tells (Popped.Refused n) = record { number = refl; values = refl }
 
-  pub complete-tells : (a : Completed) → Tells (completeSaid a ws) (completedSays a)
+  pub complete-tells : (a : Completed) → TellsWords (completeSaid a ws) (completedSays a)
   complete-tells Completed.Settled = record { number = refl; values = refl }
   complete-tells (Completed.Refused n kept) = record { number = refl; values = refl }
 
-  pub retry-tells : (a : Retried) → Tells (retrySaid a ws) (retriedSays a)
+  pub retry-tells : (a : Retried) → TellsWords (retrySaid a ws) (retriedSays a)
   retry-tells (Retried.Again t) = record { number = refl; values = refl }
   retry-tells (Retried.Refused n) = record { number = refl; values = refl }
 
-  pub cancel-tells : (a : Cancelled) → Tells (cancelSaid a ws) (cancelledSays a)
+  pub cancel-tells : (a : Cancelled) → TellsWords (cancelSaid a ws) (cancelledSays a)
   cancel-tells Cancelled.Done = record { number = refl; values = refl }
   cancel-tells (Cancelled.Refused n) = record { number = refl; values = refl }
 
-  pub domain-tells : (a : DomainTold) → Tells (domainSaid a ws) (domainSays a)
+  pub domain-tells : (a : DomainTold) → TellsWords (domainSaid a ws) (domainSays a)
   domain-tells (DomainTold.Is d) = record { number = refl; values = refl }
   domain-tells (DomainTold.Refused n) = record { number = refl; values = refl }
 

@@ -14,6 +14,6 @@ abbrev pub valuesIn : Exported → List ℕ
 valuesIn x = drop 1 (x .answer)
 
 -- number and values are those that the paper gives
-pub record Tells (x : Exported) (s : Said) : Type 0 where
+pub record TellsWords (x : Exported) (s : Said) : Type 0 where
   pub number : x .result ≡ s .number
   pub values : valuesIn x ≡ padded (s .values)

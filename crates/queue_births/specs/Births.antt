@@ -3,7 +3,7 @@ use Prim.Native.Nat.{ℕ, _+_}
 use mathlib.Core.Bool.{not}
 use lib.Dec.{eqb}
 use Rattle.choice.specs.Choice.{if_then_else_}
-use Rattle.stage.specs.Phases.{next}
+use Rattle.stage.specs.Phases.{phaseAfter}
 use Rattle.stage.specs.declared.phases.Event.the-variants.{Land}
 use Rattle.queue_record.specs.Refusals.{broken}
 use Rattle.queue_record.specs.Record.{withSlot, withCount, withPhase}
@@ -37,7 +37,7 @@ registered q number =
 
 -- as grown, and the stage moves
 abbrev pub landedTo : Queue → ℕ → Queue
-landedTo q number = withPhase (grown q number) (next (q .phase) Land)
+landedTo q number = withPhase (grown q number) (phaseAfter (q .phase) Land)
 
 -- land: as register, and moves the stage. Order 1, 2, 4, 3
 unfoldable pub landed : Queue → ℕ → RegisterAnswer

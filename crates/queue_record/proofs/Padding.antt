@@ -7,7 +7,7 @@ use native.Mathlib.Omega.{arith}
 use native.Mathlib.Numerals.{add-one}
 use lib.ListN.{length, getD, drop, set, replicate, length-replicate, length-append}
 use lib.Seq.{paste, paste-zero, paste-suc, take-all, drop-append-seam}
-use Rattle.queue_record.specs.Openings.{kept}
+use Rattle.queue_record.specs.Openings.{bindingPlaces}
 use Rattle.queue_record.specs.WellFormed.{allZero, restZero}
 use Rattle.queue_record.proofs.Zeros.{zeros-are}
 
@@ -37,7 +37,7 @@ filled-more given i l h =
     let z : 0 + i ≡ i = omega arith in
     rw add-one (sym (ap (λ (k : ℕ). set (filled given i) k (getD given i 0)) z) ∙ paste-suc (replicate 16 0) 0 given i 0 (omega arith) h)
 
-pub filled-all : (given : List ℕ) (i : ℕ) → length given ≤ 16 → length given ≤ i → i ≤ length given → filled given i ≡ kept given
+pub filled-all : (given : List ℕ) (i : ℕ) → length given ≤ 16 → length given ≤ i → i ≤ length given → filled given i ≡ bindingPlaces given
 filled-all given i l h k =
     let e : i ≡ length given = omega arith in
     ap (filled given) e ∙ (ap (λ (xs : List ℕ). xs ++ drop (0 + length given) (replicate 16 0)) (take-all (length given) given (omega arith))
@@ -47,11 +47,11 @@ filled-all given i l h k =
     zero-less = omega arith
 
 -- behind the given numbers all is 0
-pub kept-rest : (given : List ℕ) → restZero (length given) (kept given) ≡ true
+pub kept-rest : (given : List ℕ) → restZero (length given) (bindingPlaces given) ≡ true
 kept-rest given = ap allZero (drop-append-seam given (replicate (16 - length given) 0)) ∙ zeros-are (16 - length given)
 
-pub kept-length : (given : List ℕ) → length given ≤ 16 → length (kept given) ≡ 16
+pub kept-length : (given : List ℕ) → length given ≤ 16 → length (bindingPlaces given) ≡ 16
 kept-length given l =
     let n : length (replicate {A = ℕ} (16 - length given) 0) ≡ 16 - length given = length-replicate (16 - length given) 0 in
-    let s : length (kept given) ≡ length given + length (replicate {A = ℕ} (16 - length given) 0) = length-append given (replicate (16 - length given) 0) in
+    let s : length (bindingPlaces given) ≡ length given + length (replicate {A = ℕ} (16 - length given) 0) = length-append given (replicate (16 - length given) 0) in
     omega arith

@@ -28,15 +28,15 @@ abbrev pub headingOf : Kind → ℕ → ℕ → Heading
 headingOf kind domain first = record { kind = kind; domain = domain; first = first }
 
 -- the bindings as given, and 0 in the places behind them
-abbrev pub kept : List ℕ → List ℕ
-kept given = given ++ replicate (16 - length given) 0
+abbrev pub bindingPlaces : List ℕ → List ℕ
+bindingPlaces given = given ++ replicate (16 - length given) 0
 
 -- a queue without tokens: next starts at the first attempt
 abbrev pub started : Heading → Phase → List ℕ → ℕ → Queue
 started heading phase bindings bound = record { kind = heading .kind; domain = heading .domain; next = heading .first; slots = replicate 64 0; count = 0; selection = Free; failed = false; issued = false; phase = phase; bindings = bindings; bound = bound }
 
 abbrev pub opened : Kind → Phase → ℕ → ℕ → List ℕ → Queue
-opened kind phase domain first bindings = started (headingOf kind domain first) phase (kept bindings) (length bindings)
+opened kind phase domain first bindings = started (headingOf kind domain first) phase (bindingPlaces bindings) (length bindings)
 
 -- a scope starts Ended
 unfoldable pub scopeOf : ℕ → ℕ → Queue

@@ -8,7 +8,7 @@ use stage::Phase;
 ghost use mathlib.Core.Path.{_≡_};
 ghost use Prim.Native.Nat.{_≤_};
 ghost use lib.ListN.{length};
-ghost use Rattle.queue_record.specs.Openings.{kept, started, blank, openingOf, scopeOpened, iteratorOpened, openedAs};
+ghost use Rattle.queue_record.specs.Openings.{bindingPlaces, started, blank, openingOf, scopeOpened, iteratorOpened, openedAs};
 
 // What a queue is opened as. A struct that lends a slice would want its proofs by hand, so an iterator's bindings go beside it.
 pub struct Heading {
@@ -30,7 +30,7 @@ pub struct OpenAnswer {
 // The given bindings in their 16 places.
 fn places_of(given: &[u64]) -> [u64; 16]
     requires { ⌜ length (now given) ≤ 16 ⌝ }
-    ensures { λ r. ⌜ r ≡ kept (now (given .entry)) ⌝ }
+    ensures { λ r. ⌜ r ≡ bindingPlaces (now (given .entry)) ⌝ }
 {
     let mut places = [0u64; 16];
     let mut i = 0;

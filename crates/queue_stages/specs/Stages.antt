@@ -1,7 +1,7 @@
 -- Admit, end and cancel: document 01, "Stage phases"
 use mathlib.Core.Bool.{Bool, not}
 use Rattle.choice.specs.Choice.{if_then_else_}
-use Rattle.stage.specs.Phases.{next, isPending}
+use Rattle.stage.specs.Phases.{phaseAfter, isPending}
 use Rattle.stage.specs.declared.phases.Phase.{Phase}
 use Rattle.stage.specs.declared.phases.Event.the-variants.{Admit, End, Cancel}
 use Rattle.queue_record.specs.Refusals.{broken}
@@ -24,7 +24,7 @@ refusedStage q = staged (Refused broken) q
 
 -- from Idle, admit moves only if a target is given and matches; elsewhere it is a dash in the table
 abbrev pub afterAdmit : Phase → Bool → Phase
-afterAdmit phase matched = if matched then next phase Admit else phase
+afterAdmit phase matched = if matched then phaseAfter phase Admit else phase
 
 -- admit answers whether the stage is pending afterwards
 abbrev pub admittedBy : Queue → Bool → StageAnswer
@@ -38,9 +38,9 @@ admitted q matched = if not (wellFormed q) then refusedStage q else admittedBy q
 unfoldable pub ended : Queue → StageAnswer
 ended q =
     if not (wellFormed q) then refusedStage q else
-    staged (yesOrNo (isPending (q .phase))) (withPhase q (next (q .phase) End))
+    staged (yesOrNo (isPending (q .phase))) (withPhase q (phaseAfter (q .phase) End))
 
 unfoldable pub cancelledBy : Queue → CancelAnswer
 cancelledBy q =
     if not (wellFormed q) then record { answer = Cancelled.Refused broken; queue = q } else
-    record { answer = Cancelled.Done; queue = withPhase q (next (q .phase) Cancel) }
+    record { answer = Cancelled.Done; queue = withPhase q (phaseAfter (q .phase) Cancel) }

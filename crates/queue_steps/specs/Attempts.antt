@@ -34,8 +34,8 @@ slot q token = slotIn (q .slots) token
 abbrev pub refusedPop : Queue → ℕ → PopAnswer
 refusedPop q refusal = record { answer = Popped.Refused refusal; queue = q }
 
-abbrev pub nothing : Queue → PopAnswer
-nothing q = record { answer = Nothing; queue = q }
+abbrev pub poppedNothing : Queue → PopAnswer
+poppedNothing q = record { answer = Nothing; queue = q }
 
 -- the ticket is selected, the slot empties, issued is set
 abbrev pub issuedTo : Queue → Ticket → ℕ → Queue
@@ -54,7 +54,7 @@ dueIn q = popDue (q .issued) (q .failed) (q .selection) (sought (q .selection) (
 
 -- what is due is handed out
 abbrev pub poppedAs : Queue → Due → PopAnswer
-poppedAs q Due.Nothing = nothing q
+poppedAs q Due.Nothing = poppedNothing q
 poppedAs q (Due.Refused refusal) = refusedPop q refusal
 poppedAs q (Due.Of ticket number next) = handed q ticket number next
 

@@ -13,7 +13,7 @@ use queue_record::select;
 use queue_record::well_formed;
 ghost use mathlib.Core.Path.{_≡_};
 ghost use Prim.Native.Nat.{_<_};
-ghost use Rattle.queue_steps.specs.Attempts.{refusedPop, nothing, handed, popped, answered, refusedComplete, completed, refusedRetry, renewedTo, retried};
+ghost use Rattle.queue_steps.specs.Attempts.{refusedPop, poppedNothing, handed, popped, answered, refusedComplete, completed, refusedRetry, renewedTo, retried};
 
 pub enum Popped {
     Work(Ticket, u64),
@@ -36,7 +36,7 @@ fn pop_refused(q: Queue, refusal: u64) -> PopAnswer
 }
 
 fn pop_nothing(q: Queue) -> PopAnswer
-    ensures { λ r. ⌜ r ≡ nothing q ⌝ }
+    ensures { λ r. ⌜ r ≡ poppedNothing q ⌝ }
 {
     PopAnswer {
         answer: Popped::Nothing,

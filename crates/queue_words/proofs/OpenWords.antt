@@ -6,7 +6,7 @@ use native.Mathlib.Omega.{arith}
 use native.Mathlib.Numerals.{add-one}
 use lib.ListN.{length, getD, take, drop, set, replicate}
 use lib.Seq.{paste, paste-suc, drop-drop, drop-append-le}
-use Rattle.queue_record.specs.Openings.{kept, iteratorOf}
+use Rattle.queue_record.specs.Openings.{bindingPlaces, iteratorOf}
 use Rattle.queue_record.proofs.Padding.{filled-all}
 use Rattle.queue_words.specs.Layout.{atBindings, wordCount}
 use Rattle.queue_words.specs.Words.{wordsOf}
@@ -26,7 +26,7 @@ module _ (domain first : ℕ) (given : List ℕ) (few : length given ≤ 16) whe
   abbrev base : List ℕ
   base = iteratorIn domain first (length given)
 
-  behind : take (length given) given ++ drop (atBindings + length given) base ≡ kept given ++ (length given ∷ [])
+  behind : take (length given) given ++ drop (atBindings + length given) base ≡ bindingPlaces given ++ (length given ∷ [])
   behind =
       let z : 0 + length given ≡ length given = omega arith in
       let zeros : List ℕ = replicate 16 0 in

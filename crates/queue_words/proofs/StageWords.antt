@@ -3,7 +3,7 @@ use Prim.Native.Nat.{ℕ}
 use mathlib.Core.Path.{_≡_, ap, _∙_}
 use mathlib.Core.Bool.{Bool, true, false, not}
 use mathlib.Core.List.{List}
-use Rattle.stage.specs.Phases.{next, isPending, phaseAt}
+use Rattle.stage.specs.Phases.{phaseAfter, isPending, phaseAt}
 use Rattle.stage.specs.declared.phases.Phase.{Phase}
 use Rattle.stage.specs.declared.phases.Event.the-variants.{End, Cancel}
 use Rattle.choice.proofs.Ways.{hit, miss}
@@ -49,10 +49,10 @@ module _ (ws : List ℕ) where
     unfolding admitted queueOf
     admit-by-moved m = sound-on ws s 0 _ ∙ (ap stageExported (miss _ (not-broken ws s)) ∙ told-word _ (isPending (afterAdmit phaseIn m)))
 
-    pub end-moved : endOn ws ≡ movedTo (isPending phaseIn) (next phaseIn End)
+    pub end-moved : endOn ws ≡ movedTo (isPending phaseIn) (phaseAfter phaseIn End)
     unfolding endOn ended queueOf
     end-moved = sound-on ws s 0 _ ∙ (ap stageExported (miss _ (not-broken ws s)) ∙ told-word _ (isPending phaseIn))
 
-    pub cancel-moved : cancelOn ws ≡ movedTo false (next phaseIn Cancel)
+    pub cancel-moved : cancelOn ws ≡ movedTo false (phaseAfter phaseIn Cancel)
     unfolding cancelOn cancelledBy queueOf
     cancel-moved = sound-on ws s 0 _ ∙ ap cancelExported (miss _ (not-broken ws s))

@@ -4,7 +4,7 @@ use mathlib.Core.Path.{_≡_, refl, ap, _∙_}
 use mathlib.Core.List.{List, [], _∷_}
 use native.Mathlib.Omega.{arith}
 use lib.ListN.{getD}
-use Rattle.stage.specs.Phases.{next, phaseNumber, eventNumber, phaseAt}
+use Rattle.stage.specs.Phases.{phaseAfter, phaseNumber, eventNumber, phaseAt}
 use Rattle.stage.specs.declared.phases.Phase.{Phase}
 use Rattle.stage.specs.declared.phases.Phase.the-variants.{Idle, Pending, Ended, Stopping, Closed}
 use Rattle.stage.specs.declared.phases.Event.{Event}
@@ -24,7 +24,7 @@ table =
 abbrev numbers : (Event → Phase) → List ℕ
 numbers f = phaseNumber (f Admit) ∷ phaseNumber (f Land) ∷ phaseNumber (f End) ∷ phaseNumber (f Cancel) ∷ []
 
-rows : (p : Phase) → getD table (phaseNumber p) [] ≡ numbers (next p)
+rows : (p : Phase) → getD table (phaseNumber p) [] ≡ numbers (phaseAfter p)
 rows Idle = refl
 rows Pending = refl
 rows Ended = refl
@@ -45,11 +45,11 @@ phase-back Ended = refl
 phase-back Stopping = refl
 phase-back Closed = refl
 
-table-right : (p : Phase) (e : Event) → phaseAt (getD (getD table (phaseNumber p) []) (eventNumber e) 0) ≡ next p e
-table-right p e = ap (λ (r : List ℕ). phaseAt (getD r (eventNumber e) 0)) (rows p) ∙ (ap phaseAt (columns (next p) e) ∙ phase-back (next p e))
+table-right : (p : Phase) (e : Event) → phaseAt (getD (getD table (phaseNumber p) []) (eventNumber e) 0) ≡ phaseAfter p e
+table-right p e = ap (λ (r : List ℕ). phaseAt (getD r (eventNumber e) 0)) (rows p) ∙ (ap phaseAt (columns (phaseAfter p) e) ∙ phase-back (phaseAfter p e))
 
 -- the same, looked up at numbers that are the phase's and the event's
-pub looked-up : (p : Phase) (e : Event) (i j : ℕ) → i ≡ phaseNumber p → j ≡ eventNumber e → phaseAt (getD (getD table i []) j 0) ≡ next p e
+pub looked-up : (p : Phase) (e : Event) (i j : ℕ) → i ≡ phaseNumber p → j ≡ eventNumber e → phaseAt (getD (getD table i []) j 0) ≡ phaseAfter p e
 looked-up p e i j h k = rw (h, k) (table-right p e)
 
 pub phase-below : (p : Phase) → phaseNumber p < 5

@@ -9,19 +9,19 @@ use Rattle.stage.specs.declared.phases.Event.{Event}
 use Rattle.stage.specs.declared.phases.Event.the-variants.{Admit, Land, End, Cancel}
 
 -- one row of the table: the phase after admit, after land, after end, after cancel
-abbrev pub row : Phase → Phase → Phase → Phase → Event → Phase
-row admit land end cancel Admit = admit
-row admit land end cancel Land = land
-row admit land end cancel End = end
-row admit land end cancel Cancel = cancel
+abbrev pub phaseRow : Phase → Phase → Phase → Phase → Event → Phase
+phaseRow admit land end cancel Admit = admit
+phaseRow admit land end cancel Land = land
+phaseRow admit land end cancel End = end
+phaseRow admit land end cancel Cancel = cancel
 
 -- the phase after an event: the paper's table, with the phase itself for a dash, "no change"
-abbrev pub next : Phase → Event → Phase
-next Idle = row Pending Idle Idle Closed
-next Pending = row Pending Idle Ended Stopping
-next Ended = row Ended Ended Ended Closed
-next Stopping = row Stopping Closed Closed Stopping
-next Closed = row Closed Closed Closed Closed
+abbrev pub phaseAfter : Phase → Event → Phase
+phaseAfter Idle = phaseRow Pending Idle Idle Closed
+phaseAfter Pending = phaseRow Pending Idle Ended Stopping
+phaseAfter Ended = phaseRow Ended Ended Ended Closed
+phaseAfter Stopping = phaseRow Stopping Closed Closed Stopping
+phaseAfter Closed = phaseRow Closed Closed Closed Closed
 
 -- pending answers yes in Pending and Stopping
 abbrev pub isPending : Phase → Bool

@@ -1,6 +1,6 @@
 // The five phases, the four events, and the table of next phases.
 ghost use mathlib.Core.Path.{_≡_};
-ghost use Rattle.stage.specs.Phases.{next, isPending, isSettled, isCancelled, phaseNumber, eventNumber, phaseAt, differs};
+ghost use Rattle.stage.specs.Phases.{phaseAfter, isPending, isSettled, isCancelled, phaseNumber, eventNumber, phaseAt, differs};
 
 pub enum Phase {
     Idle,
@@ -72,7 +72,7 @@ pub fn phase_at(number: u64) -> Phase
 
 // The phase after an event.
 pub fn next_phase(phase: Phase, event: Event) -> Phase
-    ensures { λ r. ⌜ r ≡ next phase event ⌝ }
+    ensures { λ r. ⌜ r ≡ phaseAfter phase event ⌝ }
 {
     let row = phase_number(phase) as usize;
     let column = event_number(event) as usize;

@@ -5,7 +5,7 @@ use mathlib.Core.Bool.{Bool, not, and-true}
 use lib.ListN.{drop}
 use borrow.Author.Tests.{le-leb, lt-leb, not-true, not-false}
 use Rattle.choice.proofs.Ways.{pass, stop}
-use Rattle.group_check.specs.WellFormed.{clauses, wellGrouped}
+use Rattle.group_check.specs.WellFormed.{groupClauses, wellGrouped}
 use Rattle.group_record.specs.declared.record.Groups.{Groups}
 use Rattle.queue_record.specs.WellFormed.{allTrue}
 use borrow.Author.Needs.{needs}
@@ -49,7 +49,7 @@ asked6 c = asked5 (to5 c)
 
 -- ---- what is left of the definition behind each test: the clauses from the k-th on
 abbrev leftOf : ℕ → Groups → Bool
-leftOf k g = allTrue (drop k (clauses g))
+leftOf k g = allTrue (drop k (groupClauses g))
 
 left1 : (c : tie.Else1) → wellGrouped (start c) ≡ leftOf 1 (start c)
 unfolding wellGrouped

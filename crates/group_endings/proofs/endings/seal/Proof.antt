@@ -2,7 +2,7 @@
 use mathlib.Core.Path.{_≡_, sym, ap, _∙_}
 use Rattle.choice.proofs.Ways.{hit, miss}
 use Rattle.group_record.specs.declared.record.Groups.{Groups}
-use Rattle.group_lives.specs.Openings.{unsealed}
+use Rattle.group_openings.specs.Openings.{unsealed}
 use Rattle.group_endings.specs.Endings.{sealedBy, sealedIn}
 use Rattle.group_endings.specs.declared.endings.Closed.{Closed}
 use Rattle.group_endings.specs.declared.endings.CloseAnswer.{CloseAnswer}

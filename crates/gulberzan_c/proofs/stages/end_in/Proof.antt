@@ -4,7 +4,7 @@ use Rattle.stage.specs.declared.phases.Phase.{Phase}
 use Rattle.queue_record.specs.Record.{withPhase}
 use Rattle.queue_words.specs.Words.{queueOf, wordsOf}
 use Rattle.queue_words.specs.InPlace.{saidIn}
-use Rattle.stage.specs.Phases.{next, isPending}
+use Rattle.stage.specs.Phases.{phaseAfter, isPending}
 use Rattle.stage.specs.declared.phases.Event.the-variants.{End}
 use Rattle.queue_words.proofs.StageWords.{phaseIn, end-moved}
 use borrow.Author.Needs.{needs}
@@ -15,8 +15,8 @@ use Rattle.gulberzan_c.proofs.stages.end_in.Tie as tie
 abbrev asked : tie.After-next-phase → tie.Start
 asked c = c .before .before .before
 
-moved : (c : tie.After-next-phase) → (c .next-phase .result) ≡ next (phaseIn (asked c .args .queue .now)) End
-moved c = (c .next-phase .ensures) ∙ ap (λ (p : Phase). next p End) (c .before .phase-at .ensures)
+moved : (c : tie.After-next-phase) → (c .next-phase .result) ≡ phaseAfter (phaseIn (asked c .args .queue .now)) End
+moved c = (c .next-phase .ensures) ∙ ap (λ (p : Phase). phaseAfter p End) (c .before .phase-at .ensures)
 
 abbrev toMoved : tie.After-move-stage → tie.After-next-phase
 toMoved c = c .before .before .before .before

@@ -3,7 +3,7 @@ use Prim.Native.Nat.{ℕ}
 use mathlib.Core.Path.{_≡_, sym}
 use mathlib.Core.List.{List}
 use lib.ListN.{set}
-use Rattle.stage.specs.Phases.{next, phaseNumber, phaseAt}
+use Rattle.stage.specs.Phases.{phaseAfter, phaseNumber, phaseAt}
 use Rattle.stage.specs.declared.phases.Phase.{Phase}
 use Rattle.stage.specs.declared.phases.Event.the-variants.{Land}
 use Rattle.queue_record.specs.declared.record.Queue.{Queue}
@@ -30,12 +30,12 @@ abbrev phaseIn : tie.After-grow → Phase
 phaseIn c = phaseAt (word (asked c) atPhase)
 
 put : (c : tie.After-grow)
-    → set (wordsOf (bornIn c)) atPhase (phaseNumber (next (phaseIn c) Land))
+    → set (wordsOf (bornIn c)) atPhase (phaseNumber (phaseAfter (phaseIn c) Land))
     ≡ wordsOf (landedTo (queueOf (asked c)) (start c .args .number))
 unfolding queueOf
 put c =
     sym (phase-set (bornIn c) (grown-held (asked c) (start c .pre .0) (start c .args .number) (start c .pre .1) .slots)
-    (next (phaseIn c) Land))
+    (phaseAfter (phaseIn c) Land))
 
 pub grow-landed-spec : {M : Type 1} → statement M
 grow-landed-spec =

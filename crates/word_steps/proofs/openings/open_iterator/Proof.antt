@@ -30,7 +30,8 @@ no-refusal c = ap (λ (r : OpenAnswer). openNumber (r .answer)) (miss _ (le-ltb 
 
 stored : (c : tie.Else1) → runPut (iteratorIn (c .before .before .args .domain) (c .before .before .args .first) (length (given c))) atBindings (given c) ≡ wordsOf (opened c .queue)
 unfolding iteratorOpened
-stored c = iterator-words (c .before .before .args .domain) (c .before .before .args .first) (given c) (c .if1 .left) ∙ sym (ap (λ (r : OpenAnswer). wordsOf (r .queue)) (miss _ (le-ltb _ _ (c .if1 .left))))
+stored c = iterator-words (c .before .before .args .domain) (c .before .before .args .first) (given c) (c .if1 .left)
+    ∙ sym (ap (λ (r : OpenAnswer). wordsOf (r .queue)) (miss _ (le-ltb _ _ (c .if1 .left))))
 
 abbrev toElse : tie.After-put-run → tie.Else1
 toElse c = c .before .before .before .before

@@ -1,15 +1,15 @@
 -- Refused, or put in
 use mathlib.Core.Path.{_≡_, sym, ap, _∙_}
 use lib.ListN.{length, length-map}
-use Rattle.group_lives.specs.Openings.{roomOf, addedAt}
-use Rattle.group_lives.specs.declared.openings.Added.{Added}
-use Rattle.group_lives.specs.declared.openings.AddAnswer.{AddAnswer}
+use Rattle.group_openings.specs.Openings.{roomOf, addedAt}
+use Rattle.group_openings.specs.declared.openings.Added.{Added}
+use Rattle.group_openings.specs.declared.openings.AddAnswer.{AddAnswer}
 use Rattle.group_record.specs.declared.record.Groups.{Groups}
-use Rattle.group_lives.proofs.Room.{room-below}
+use Rattle.group_openings.proofs.Room.{room-below}
 use Rattle.group_check.specs.declared.ids.Spot.{Spot}
 use borrow.Author.Needs.{needs}
-use Rattle.group_lives.proofs.openings.add.Statement.{statement}
-use Rattle.group_lives.proofs.openings.add.Tie as tie
+use Rattle.group_openings.proofs.openings.add.Statement.{statement}
+use Rattle.group_openings.proofs.openings.add.Tie as tie
 
 -- what is asked, as seen from a refusal
 abbrev askedRefused : tie.After-spot → tie.Start

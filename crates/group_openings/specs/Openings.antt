@@ -12,23 +12,23 @@ use Rattle.queue_record.specs.declared.record.Queue.{Queue}
 use Rattle.queue_record.specs.declared.openings.Opened.{Opened}
 use Rattle.queue_record.specs.declared.openings.Opened.the-variants.{Open}
 use Rattle.queue_record.specs.declared.openings.OpenAnswer.{OpenAnswer}
-use Rattle.group_record.specs.Record.{emptyOf, opening}
+use Rattle.group_record.specs.Record.{emptyOf, withOpened}
 use Rattle.group_asking.specs.Scan.{firstYes}
 use Rattle.group_check.specs.WellFormed.{lastBase, ids, wellGrouped}
 use Rattle.group_record.specs.declared.record.Groups.{Groups}
 use Rattle.group_asking.specs.declared.questions.Question.the-variants.{Free}
 use Rattle.group_check.specs.declared.ids.Spot.{Spot}
-use Rattle.group_lives.specs.declared.openings.NewAnswer.{NewAnswer}
-use Rattle.group_lives.specs.declared.openings.Added.{Added}
-use Rattle.group_lives.specs.declared.openings.Added.the-variants.{Id}
-use Rattle.group_lives.specs.declared.openings.AddAnswer.{AddAnswer}
+use Rattle.group_openings.specs.declared.openings.NewAnswer.{NewAnswer}
+use Rattle.group_openings.specs.declared.openings.Added.{Added}
+use Rattle.group_openings.specs.declared.openings.Added.the-variants.{Id}
+use Rattle.group_openings.specs.declared.openings.AddAnswer.{AddAnswer}
 
 -- a base above 18446744073709486079 gets 19 and an empty group record of base 0; any other, as upstream, the root: a scope
 -- open as id 0, whose domain is the base
 unfoldable pub newOf : ℕ → NewAnswer
 newOf base =
     if ltb lastBase base then record { answer = Opened.Refused noId; groups = emptyOf 0 } else
-    record { answer = Open; groups = opening (emptyOf base) 0 (scopeOf base 0) }
+    record { answer = Open; groups = withOpened (emptyOf base) 0 (scopeOf base 0) }
 
 -- 1, then 12
 abbrev pub unsealed : Groups → Opened
@@ -52,7 +52,7 @@ refusedAdd g refusal = record { answer = Added.Refused refusal; groups = g }
 -- the id is next, in opening order
 abbrev pub addedAt : Groups → Queue → Spot → AddAnswer
 addedAt g q (Spot.Refused refusal) = refusedAdd g refusal
-addedAt g q (Spot.At i) = record { answer = Id (g .next); groups = opening g i q }
+addedAt g q (Spot.At i) = record { answer = Id (g .next); groups = withOpened g i q }
 
 abbrev pub added : Groups → Queue → AddAnswer
 added g q = addedAt g q (roomOf g)

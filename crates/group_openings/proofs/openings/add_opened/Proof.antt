@@ -1,9 +1,9 @@
 -- The refusal of the opening, or its queue is put in
 use mathlib.Core.Path.{sym, ap, _∙_}
-use Rattle.group_lives.specs.Openings.{addedQueue}
+use Rattle.group_openings.specs.Openings.{addedQueue}
 use borrow.Author.Needs.{needs}
-use Rattle.group_lives.proofs.openings.add_opened.Statement.{statement}
-use Rattle.group_lives.proofs.openings.add_opened.Tie as tie
+use Rattle.group_openings.proofs.openings.add_opened.Statement.{statement}
+use Rattle.group_openings.proofs.openings.add_opened.Tie as tie
 
 -- behind the answer that the opening gave: what is asked
 abbrev askedRefused : tie.After-answer → tie.Start

@@ -22,7 +22,7 @@ use Rattle.group_asking.specs.declared.questions.Question.the-variants.{Free}
 use Rattle.group_check.specs.declared.ids.Spot.{Spot}
 use Rattle.group_check.proofs.Fit.{Fit, fit}
 use Rattle.group_check.proofs.Spots.{first-below}
-use Rattle.group_lives.specs.Openings.{unsealed, roomAt, roomOf}
+use Rattle.group_openings.specs.Openings.{unsealed, roomAt, roomOf}
 
 pub unsealed-means : (g : Groups) → unsealed g ≡ Open → (wellGrouped g ≡ true) × (g .sealed ≡ false)
 unsealed-means g e = go (wellGrouped g) refl (g .sealed) refl e

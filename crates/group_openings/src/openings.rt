@@ -19,7 +19,7 @@ use queue_record::refusal::NO_ID;
 use queue_record::refusal::SEALED;
 use queue_record::scope;
 ghost use mathlib.Core.Path.{_≡_};
-ghost use Rattle.group_lives.specs.Openings.{newOf, unsealed, roomOf, refusedAdd, added, addedQueue, addedScope, addedIterator};
+ghost use Rattle.group_openings.specs.Openings.{newOf, unsealed, roomOf, refusedAdd, added, addedQueue, addedScope, addedIterator};
 
 pub struct NewAnswer {
     pub answer: Opened,

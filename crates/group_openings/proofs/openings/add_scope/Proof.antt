@@ -2,14 +2,14 @@
 use mathlib.Core.Path.{_≡_, sym, ap, _∙_}
 use Rattle.queue_record.specs.Openings.{scopeOpened}
 use Rattle.queue_record.specs.declared.openings.OpenAnswer.{OpenAnswer}
-use Rattle.group_lives.specs.Openings.{unsealed, nextDomain, addedQueue, addedOpening, addedScope}
-use Rattle.group_lives.proofs.Room.{domain-fits}
+use Rattle.group_openings.specs.Openings.{unsealed, nextDomain, addedQueue, addedOpening, addedScope}
+use Rattle.group_openings.proofs.Room.{domain-fits}
 use native.Mathlib.Omega.{arith}
 use Rattle.queue_record.specs.declared.openings.Opened.the-variants.{Open}
 use Rattle.group_record.specs.declared.record.Groups.{Groups}
 use borrow.Author.Needs.{needs}
-use Rattle.group_lives.proofs.openings.add_scope.Statement.{statement}
-use Rattle.group_lives.proofs.openings.add_scope.Tie as tie
+use Rattle.group_openings.proofs.openings.add_scope.Statement.{statement}
+use Rattle.group_openings.proofs.openings.add_scope.Tie as tie
 
 -- what is asked, as seen from a refusal
 abbrev askedRefused : tie.After-gate → tie.Start
@@ -42,7 +42,8 @@ add-scope-spec =
     (λ c κs. search needs)
     (λ c.
     let a = askedRefused (c .before .before) .args in
-    (c .add-refused .ensures) ∙ sym (ap (addedOpening (a .g) (scopeOpened (nextDomain (a .g)) 0)) (sym (c .before .before .before .before .is-unsealed .ensures) ∙ (c .before .before .gate .given .1))))
+    (c .add-refused .ensures) ∙ sym (ap (addedOpening (a .g) (scopeOpened (nextDomain (a .g)) 0))
+    (sym (c .before .before .before .before .is-unsealed .ensures) ∙ (c .before .before .gate .given .1))))
     (λ c.
     let at = toGate (c .before) in
     (c .add-opened .ensures) ∙ (ap (λ (x : OpenAnswer). addedQueue (asked at) (x .queue) (x .answer)) (c .before .scope .ensures)

@@ -7,10 +7,10 @@ use Rattle.queue_record.specs.declared.search.Found.the-variants.{At}
 use Rattle.group_asking.specs.Scan.{firstYes}
 use Rattle.group_asking.specs.declared.questions.Question.the-variants.{Free}
 use Rattle.group_record.specs.declared.record.Groups.{Groups}
-use Rattle.group_lives.specs.Openings.{roomAt}
+use Rattle.group_openings.specs.Openings.{roomAt}
 use borrow.Author.Needs.{needs}
-use Rattle.group_lives.proofs.openings.room.Statement.{statement}
-use Rattle.group_lives.proofs.openings.room.Tie as tie
+use Rattle.group_openings.proofs.openings.room.Statement.{statement}
+use Rattle.group_openings.proofs.openings.room.Tie as tie
 
 -- behind the search: the groups that are asked, and their lowest free place
 abbrev asked : tie.After-found → Groups

@@ -2,8 +2,8 @@
 use mathlib.Core.Path.{sym, _∙_}
 use Rattle.choice.proofs.Ways.{hit, miss, negated}
 use borrow.Author.Needs.{needs}
-use Rattle.group_lives.proofs.openings.is_unsealed.Statement.{statement}
-use Rattle.group_lives.proofs.openings.is_unsealed.Tie as tie
+use Rattle.group_openings.proofs.openings.is_unsealed.Statement.{statement}
+use Rattle.group_openings.proofs.openings.is_unsealed.Tie as tie
 
 pub is-unsealed-spec : {M : Type 1} → statement M
 is-unsealed-spec =

@@ -3,14 +3,14 @@ use mathlib.Core.Path.{_≡_, sym, ap, _∙_}
 use denote.Ref.{now}
 use Rattle.queue_record.specs.Openings.{iteratorOpened}
 use Rattle.queue_record.specs.declared.openings.OpenAnswer.{OpenAnswer}
-use Rattle.group_lives.specs.Openings.{unsealed, nextDomain, addedQueue, addedOpening, addedIterator}
-use Rattle.group_lives.proofs.Room.{domain-fits}
+use Rattle.group_openings.specs.Openings.{unsealed, nextDomain, addedQueue, addedOpening, addedIterator}
+use Rattle.group_openings.proofs.Room.{domain-fits}
 use native.Mathlib.Omega.{arith}
 use Rattle.queue_record.specs.declared.openings.Opened.the-variants.{Open}
 use Rattle.group_record.specs.declared.record.Groups.{Groups}
 use borrow.Author.Needs.{needs}
-use Rattle.group_lives.proofs.openings.add_iterator.Statement.{statement}
-use Rattle.group_lives.proofs.openings.add_iterator.Tie as tie
+use Rattle.group_openings.proofs.openings.add_iterator.Statement.{statement}
+use Rattle.group_openings.proofs.openings.add_iterator.Tie as tie
 
 -- what is asked, as seen from a refusal
 abbrev askedRefused : tie.After-gate → tie.Start
@@ -43,7 +43,8 @@ add-iterator-spec =
     (λ c κs. search needs)
     (λ c.
     let a = askedRefused (c .before .before) .args in
-    (c .add-refused .ensures) ∙ sym (ap (addedOpening (a .g) (iteratorOpened (nextDomain (a .g)) 0 (now (a .bindings)))) (sym (c .before .before .before .before .is-unsealed .ensures) ∙ (c .before .before .gate .given .1))))
+    (c .add-refused .ensures) ∙ sym (ap (addedOpening (a .g) (iteratorOpened (nextDomain (a .g)) 0 (now (a .bindings))))
+    (sym (c .before .before .before .before .is-unsealed .ensures) ∙ (c .before .before .gate .given .1))))
     (λ c.
     let at = toGate (c .before) in
     (c .add-opened .ensures) ∙ (ap (λ (x : OpenAnswer). addedQueue (asked at) (x .queue) (x .answer)) (c .before .iterator .ensures)
