@@ -102,7 +102,8 @@ abbrev pub ReadyCase : (PopAnswer → Type 0) → Queue → Type 0
 ReadyCase P q = Popping q → (t : Ticket) → q .selection ≡ Of t → (slot q (t .token) ≡ 0 → ⊥) → P (handed q t (slot q (t .token)) (q .next))
 
 -- pop, whose refusals are never 9
-module _ (P : PopAnswer → Type 0) (q : Queue) (refused : (n : ℕ) → (n ≡ hollow → ⊥) → (n ≡ 0 → ⊥) → P (refusedPop q n)) (idle : P (poppedNothing q)) (fresh : FreshCase P q) (ready : ReadyCase P q) where
+module _ (P : PopAnswer → Type 0) (q : Queue) (refused : (n : ℕ) → (n ≡ hollow → ⊥) → (n ≡ 0 → ⊥) → P (refusedPop q n))
+    (idle : P (poppedNothing q)) (fresh : FreshCase P q) (ready : ReadyCase P q) where
   -- of what is due
   abbrev D : Due → Type 0
   D d = P (poppedAs q d)

@@ -234,7 +234,9 @@ land-row Closed h = clash h refl
 module _ (q : Queue) (n : ℕ) where
   -- Register leaves the selected ticket, both marks, next and the stage (Q96 to Q98, Q108).
   pub register-leaves : LeavesSelected q (registered q n .queue) × (registered q n .queue .phase ≡ q .phase)
-  register-leaves = register-by (λ (r : RegisterAnswer). LeavesSelected q (r .queue) × (r .queue .phase ≡ q .phase)) q n (λ _. ((refl, refl, refl, refl), refl)) (λ _ _ _. ((refl, refl, refl, refl), refl))
+  register-leaves =
+      register-by (λ (r : RegisterAnswer). LeavesSelected q (r .queue) × (r .queue .phase ≡ q .phase)) q n
+      (λ _. ((refl, refl, refl, refl), refl)) (λ _ _ _. ((refl, refl, refl, refl), refl))
 
   -- Land leaves the selected ticket, both marks and next (Q132, Q133).
   pub land-leaves : LeavesSelected q (landed q n .queue)

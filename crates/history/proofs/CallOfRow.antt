@@ -121,7 +121,9 @@ module _ (b : Bench) (w : wellFormed (b .queue) ≡ true) (p : Put (b .log) (b .
 
   end-entry : entryOf q end ≡ entry done (differs (q .phase) (phaseAfter (q .phase) End)) (stageRow endKind)
   unfolding ended
-  end-entry = ap (λ (x : StageAnswer). stageEntry endKind (q .phase) (x .queue .phase) (x .answer)) (miss _ (ap not w)) ∙ told-entry endKind (q .phase) (phaseAfter (q .phase) End) (isPending (q .phase))
+  end-entry =
+      ap (λ (x : StageAnswer). stageEntry endKind (q .phase) (x .queue .phase) (x .answer)) (miss _ (ap not w))
+      ∙ told-entry endKind (q .phase) (phaseAfter (q .phase) End) (isPending (q .phase))
 
   cancel-entry : entryOf q cancel ≡ entry done (differs (q .phase) (phaseAfter (q .phase) Cancel)) (stageRow cancelKind)
   unfolding cancelledBy
@@ -129,8 +131,11 @@ module _ (b : Bench) (w : wellFormed (b .queue) ≡ true) (p : Put (b .log) (b .
 
   moves-of : (e : Event) (k : ℕ) → r .kind ≡ k → replayedStage q e r .fits ≡ true → (differs (q .phase) (phaseAfter (q .phase) e) ≡ true) × (rowOf k 0 0 0 0 ≡ r)
   moves-of e k kind h =
-      let m = and-right (wellFormed q) (differs (q .phase) (phaseAfter (q .phase) e) && sameRow (rowOf (r .kind) 0 0 0 0) r) h in
-      (and-left (differs (q .phase) (phaseAfter (q .phase) e)) _ m, ap (λ (x : ℕ). rowOf x 0 0 0 0) (sym kind) ∙ one-row (rowOf (r .kind) 0 0 0 0) r (and-right (differs (q .phase) (phaseAfter (q .phase) e)) _ m))
+      let m = and-right (wellFormed q) (differs (q .phase) (phaseAfter (q .phase) e) && sameRow (rowOf (r .kind) 0 0 0 0) r) h in (
+        and-left (differs (q .phase) (phaseAfter (q .phase) e)) _ m,
+        ap (λ (x : ℕ). rowOf x 0 0 0 0) (sym kind)
+            ∙ one-row (rowOf (r .kind) 0 0 0 0) r (and-right (differs (q .phase) (phaseAfter (q .phase) e)) _ m),
+      )
 
   writes-stage : (c : Call) (e : Event) (k : ℕ) → entryOf q c ≡ entry done (differs (q .phase) (phaseAfter (q .phase) e)) (stageRow k)
       → fits c ≡ true → r .kind ≡ k → replayedStage q e r .fits ≡ true → Writes b r
