@@ -21,10 +21,10 @@ use Rattle.cleanup_queue.proofs.ByCase.{register-by, land-by, pop-by, c
 use Rattle.cleanup_queue.proofs.Rises.{From, empty, later, lower, from-rising}
 
 -- a call gives no token and leaves the count, or gives the count as token and raises it
-abbrev Gives : Queue → List ℕ → Queue → Type 0
+abbrev pub Gives : Queue → List ℕ → Queue → Type 0
 Gives q given p = ((given ≡ []) × (p .count ≡ q .count)) ⊎ ((given ≡ q .count ∷ []) × (p .count ≡ q .count + 1))
 
-call-gives : (q : Queue) (c : Call) → Gives q (tokensBornBy q c) (after q c)
+pub call-gives : (q : Queue) (c : Call) → Gives q (tokensBornBy q c) (after q c)
 unfolding admitted ended cancelledBy
 call-gives q (register n) = register-by (λ (r : RegisterAnswer). Gives q (tokenOf (r .answer)) (r .queue)) q n (λ _. inl (refl, refl)) (λ _ _ _. inr (refl, refl))
 call-gives q (land n) = land-by (λ (r : RegisterAnswer). Gives q (tokenOf (r .answer)) (r .queue)) q n (λ _. inl (refl, refl)) (λ _ _ _ _. inr (refl, refl))

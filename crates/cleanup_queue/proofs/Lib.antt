@@ -11,3 +11,4 @@ pub mod Numbers
 pub mod Upstream
 pub mod Births
 pub mod Targets
+pub mod Exactly

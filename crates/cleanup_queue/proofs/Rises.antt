@@ -28,16 +28,16 @@ use Rattle.cleanup_queue.proofs.ByCase.{register-by, land-by, Popping, 
 
 -- ---- what each call does to the attempt that comes next
 -- the attempt that the next handing out carries: a ready ticket's own, or else next
-abbrev comingBy : Selection → Bool → ℕ → ℕ
+abbrev pub comingBy : Selection → Bool → ℕ → ℕ
 comingBy Free marked next = next
 comingBy (Of t) true next = next
 comingBy (Of t) false next = t .attempt
 
-abbrev coming : Queue → ℕ
+abbrev pub coming : Queue → ℕ
 coming q = comingBy (q .selection) (q .issued || q .failed) (q .next)
 
 -- nothing is handed out, and the same attempt comes next
-abbrev Waits : Queue → List ℕ → Queue → Type 0
+abbrev pub Waits : Queue → List ℕ → Queue → Type 0
 Waits q handed p = (handed ≡ []) × (coming p ≡ coming q)
 
 -- the attempt that came next is handed out, and a larger one comes next
@@ -54,10 +54,10 @@ module _ (q : Queue) where
   unmarked : Popping q → (q .issued || q .failed) ≡ false
   unmarked p = other (q .failed) (p .issued) ∙ p .failed
 
-  fresh-comes : Popping q → q .selection ≡ Free → q .next ≡ coming q
+  pub fresh-comes : Popping q → q .selection ≡ Free → q .next ≡ coming q
   fresh-comes p e = sym (ap (λ (s : Selection). comingBy s (q .issued || q .failed) (q .next)) e)
 
-  ready-comes : Popping q → (t : Ticket) → q .selection ≡ Of t → t .attempt ≡ coming q
+  pub ready-comes : Popping q → (t : Ticket) → q .selection ≡ Of t → t .attempt ≡ coming q
   ready-comes p t e = sym (ap (λ (s : Selection). comingBy s (q .issued || q .failed) (q .next)) e ∙ ap (λ (b : Bool). comingBy (Of t) b (q .next)) (unmarked p))
 
   pop-step : Waits q (attemptOf (popped q .answer)) (popped q .queue) ⊎ Goes q (attemptOf (popped q .answer)) (popped q .queue)
@@ -88,16 +88,21 @@ module _ (q : Queue) where
       ap (λ (b : Bool). comingBy (Of (renewed q t)) (b || false) (q .next + 1)) (failed-not-issued q w f)
       ∙ sym (marked-comes (q .selection) (q .issued || q .failed) (q .next) (ap (λ (b : Bool). q .issued || b) f ∙ or-true (q .issued))))
 
-  call-step : (c : Call) → Waits q (handedBy q c) (after q c) ⊎ Goes q (handedBy q c) (after q c)
+  -- whatever holds of pop and of a call that hands out nothing holds of every call
+  pub step-by : (R : List ℕ → Queue → Type 0) → ((p : Queue) → coming p ≡ coming q → R [] p) → R (attemptOf (popped q .answer)) (popped q .queue)
+      → (c : Call) → R (handedBy q c) (after q c)
   unfolding admitted ended cancelledBy
-  call-step (register n) = inl (refl, register-by (λ (r : RegisterAnswer). coming (r .queue) ≡ coming q) q n (λ _. refl) (λ _ _ _. refl))
-  call-step (land n) = inl (refl, land-by (λ (r : RegisterAnswer). coming (r .queue) ≡ coming q) q n (λ _. refl) (λ _ _ _ _. refl))
-  call-step pop = pop-step
-  call-step (complete t o k) = inl (refl, complete-comes t o k)
-  call-step retry = inl (refl, retry-comes)
-  call-step (admit m) = inl (refl, if-by (λ (r : StageAnswer). coming (r .queue) ≡ coming q) (not (wellFormed q)) _ _ (λ _. refl) (λ _. refl))
-  call-step end = inl (refl, if-by (λ (r : StageAnswer). coming (r .queue) ≡ coming q) (not (wellFormed q)) _ _ (λ _. refl) (λ _. refl))
-  call-step cancel = inl (refl, if-by (λ (r : CancelAnswer). coming (r .queue) ≡ coming q) (not (wellFormed q)) _ _ (λ _. refl) (λ _. refl))
+  step-by R waits pops (register n) = waits _ (register-by (λ (r : RegisterAnswer). coming (r .queue) ≡ coming q) q n (λ _. refl) (λ _ _ _. refl))
+  step-by R waits pops (land n) = waits _ (land-by (λ (r : RegisterAnswer). coming (r .queue) ≡ coming q) q n (λ _. refl) (λ _ _ _ _. refl))
+  step-by R waits pops pop = pops
+  step-by R waits pops (complete t o k) = waits _ (complete-comes t o k)
+  step-by R waits pops retry = waits _ retry-comes
+  step-by R waits pops (admit m) = waits _ (if-by (λ (r : StageAnswer). coming (r .queue) ≡ coming q) (not (wellFormed q)) _ _ (λ _. refl) (λ _. refl))
+  step-by R waits pops end = waits _ (if-by (λ (r : StageAnswer). coming (r .queue) ≡ coming q) (not (wellFormed q)) _ _ (λ _. refl) (λ _. refl))
+  step-by R waits pops cancel = waits _ (if-by (λ (r : CancelAnswer). coming (r .queue) ≡ coming q) (not (wellFormed q)) _ _ (λ _. refl) (λ _. refl))
+
+  call-step : (c : Call) → Waits q (handedBy q c) (after q c) ⊎ Goes q (handedBy q c) (after q c)
+  call-step = step-by (λ handed p. Waits q handed p ⊎ Goes q handed p) (λ p e. inl (refl, e)) pop-step
 
 -- ---- over a whole run
 -- rising, and none below b

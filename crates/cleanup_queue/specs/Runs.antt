@@ -1,7 +1,9 @@
 -- Runs: any calls with any inputs, one after the other, the attempts that they hand out, and the tokens that they give
-use Prim.Native.Nat.{ℕ, _<_}
+use Prim.Native.Nat.{ℕ, zero, suc, _+_, _<_, _≤_}
+use mathlib.Core.Path.{_≡_}
 use mathlib.Core.Bool.{Bool}
 use mathlib.Core.List.{List, [], _∷_, _++_}
+use lib.ListN.{length}
 use Rattle.queue_record.specs.declared.record.Ticket.{Ticket}
 use Rattle.queue_record.specs.declared.record.Queue.{Queue}
 use Rattle.queue_births.specs.Births.{registered, landed}
@@ -84,3 +86,13 @@ pub data Rising : List ℕ → Type 0 where
   none : Rising []
   one : (a : ℕ) → Rising (a ∷ [])
   more : (a b : ℕ) (rest : List ℕ) → a < b → Rising (b ∷ rest) → Rising (a ∷ b ∷ rest)
+
+-- n numbers from b on, none left out
+abbrev pub countedFrom : ℕ → ℕ → List ℕ
+countedFrom b zero = []
+countedFrom b (suc n) = b ∷ countedFrom (suc b) n
+
+-- b, b plus 1, b plus 2 and so on, all below the limit
+pub record Counts (b limit : ℕ) (numbers : List ℕ) : Type 0 where
+  pub exactly : numbers ≡ countedFrom b (length numbers)
+  pub below : b + length numbers ≤ limit
