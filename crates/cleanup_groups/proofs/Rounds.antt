@@ -5,7 +5,7 @@ use mathlib.Core.Bool.{true, false, not}
 use native.Mathlib.Omega.{arith}
 use borrow.Author.Tests.{not-true, not-false}
 use lib.ListN.{length}
-use Rattle.choice.proofs.Ways.{if-by, miss, pass}
+use Rattle.choice.proofs.Ways.{if-by, miss, pass, clash}
 use Rattle.queue_record.specs.declared.record.Ticket.{Ticket}
 use Rattle.queue_steps.specs.Attempts.{retried}
 use Rattle.queue_steps.specs.declared.attempts.Retried.the-variants.{Again}
@@ -50,6 +50,10 @@ module _ (g : Groups) (l : length (g .places) ≡ 16) (t : retriesAll g ≡ true
   round-renews i k a f =
       let n : stuck (queueAt g i) ≡ false = not-true _ (retries-means g l t .1 i k a) in
       told-retries (queueAt g i) (yes-is (canRetryTold (queueAt g i)) (not-false _ (sym (pass _ f) ∙ n)))
+
+  -- one that had not failed keeps its whole queue
+  pub round-keeps : (i : ℕ) → queueAt g i .failed ≡ false → queueAt (allRetried g) i ≡ queueAt g i
+  round-keeps i n = by-round (λ (p : Place). p .queue ≡ queueAt g i) g i (λ b f. clash f n) (λ _. refl)
 
   -- and none has failed afterwards
   pub round-clears : (i : ℕ) → i < 16 → LiveAt (allRetried g) i → queueAt (allRetried g) i .failed ≡ false

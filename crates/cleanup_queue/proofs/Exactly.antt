@@ -1,4 +1,4 @@
--- The attempts that a run from an opening hands out are the first, plus 1, plus 2 and so on; its tokens are 0, 1, 2 and so on
+-- What an opening leaves, every part; the attempts that a run from it hands out, and the tokens that it gives, exactly
 use Prim.Native.Nat.{ℕ, suc, _+_, _<_, _≤_}
 use mathlib.Core.Path.{_≡_, refl, sym, ap, _∙_, subst}
 use mathlib.Core.Logic.{_⊎_, inl, inr, ⊎-elim}
@@ -10,7 +10,7 @@ use lib.Dec.{eqb, ltb, leb}
 use lib.ListN.{length}
 use Rattle.choice.proofs.Ways.{if-by, and-left, and-right}
 use Rattle.queue_record.specs.WellFormed.{wellFormed}
-use Rattle.queue_record.specs.Openings.{Opening, scopeOf, iteratorOf, openedBy, openedAs}
+use Rattle.queue_record.specs.Openings.{Opening, headingOf, openingOf, scopeOf, iteratorOf, openedBy, openedAs}
 use Rattle.queue_record.specs.declared.record.Kind.{Kind}
 use Rattle.queue_record.specs.declared.record.Kind.the-variants.{Scope, Iterator}
 use Rattle.queue_record.specs.declared.record.Ticket.{Ticket}
@@ -30,6 +30,7 @@ use Rattle.queue_stages.specs.Stages.{admitted, ended, cancelledBy}
 use Rattle.queue_stages.specs.declared.stages.StageAnswer.{StageAnswer}
 use Rattle.queue_stages.specs.declared.stages.CancelAnswer.{CancelAnswer}
 use Rattle.cleanup_queue.specs.Runs.{Call, register, land, pop, complete, retry, admit, end, cancel, after, afterAll, attemptOf, handedBy, attempts, tokensBornBy, tokens, countedFrom, Counts}
+use Rattle.cleanup_queue.specs.Parts.{OpenedParts}
 use Rattle.cleanup_queue.proofs.ByCase.{register-by, land-by, pop-by, complete-by, retry-by}
 use Rattle.cleanup_queue.proofs.Keeps.{run-keeps}
 use Rattle.cleanup_queue.proofs.Rises.{comingBy, coming, Waits, fresh-comes, ready-comes, step-by}
@@ -130,24 +131,48 @@ run-counts q i cs =
     record { exactly = m .0; below = omega arith }
 
 -- ---- from an opening
-opened-bare : (k : Kind) (domain first : ℕ) (bindings : List ℕ) → openedBy k domain first bindings .answer ≡ Opened.Open
-    → (openedBy k domain first bindings .queue .selection ≡ Free) × (openedBy k domain first bindings .queue .next ≡ first) × (openedBy k domain first bindings .queue .count ≡ 0)
+parts-by : (k : Kind) (domain first : ℕ) (bindings : List ℕ) → openedBy k domain first bindings .answer ≡ Opened.Open
+    → OpenedParts (openingOf (headingOf k domain first) bindings) (openedBy k domain first bindings .queue)
 unfolding scopeOf iteratorOf
-opened-bare Scope domain first bindings e = (refl, refl, refl)
-opened-bare Iterator domain first bindings e =
-    let o = iterator-open domain first bindings e in
-    (ap (λ (q : Queue). q .selection) o, ap (λ (q : Queue). q .next) o, ap (λ (q : Queue). q .count) o)
+parts-by Scope domain first bindings e = record {
+  kind = refl;
+  domain = refl;
+  next = refl;
+  slots = refl;
+  count = refl;
+  selection = refl;
+  failed = refl;
+  issued = refl;
+  phase = refl;
+  bindings = refl;
+  bound = refl;
+}
+parts-by Iterator domain first bindings e =
+    subst (λ (q : Queue). OpenedParts (openingOf (headingOf Iterator domain first) bindings) q) (sym (iterator-open domain first bindings e)) (record {
+      kind = refl;
+      domain = refl;
+      next = refl;
+      slots = refl;
+      count = refl;
+      selection = refl;
+      failed = refl;
+      issued = refl;
+      phase = refl;
+      bindings = refl;
+      bound = refl;
+    })
 
 module _ (o : Opening) (unrefused : openedAs o .answer ≡ Opened.Open) where
-  abbrev bare : (openedAs o .queue .selection ≡ Free) × (openedAs o .queue .next ≡ o .heading .first) × (openedAs o .queue .count ≡ 0)
-  bare = opened-bare (o .heading .kind) (o .heading .domain) (o .heading .first) (o .bindings) unrefused
+  -- what an opening leaves, every part
+  pub opened-parts : OpenedParts o (openedAs o .queue)
+  opened-parts = parts-by (o .heading .kind) (o .heading .domain) (o .heading .first) (o .bindings) unrefused
 
   -- whatever is called, the attempts that are handed out are the first, plus 1, plus 2 and so on, all below 18446744073709551615
   pub attempts-exactly : o .heading .first ≤ noMore → (cs : List Call) → Counts (o .heading .first) noMore (attempts (openedAs o .queue) cs)
   attempts-exactly f cs =
       let q = openedAs o .queue in
-      let i : Tight q = (λ t e. none-tight (sym (bare .0) ∙ e), rw (bare .1) f) in
-      let c : coming q ≡ o .heading .first = ap (λ (s : Selection). comingBy s (q .issued || q .failed) (q .next)) (bare .0) ∙ bare .1 in
+      let i : Tight q = (λ t e. none-tight (sym (opened-parts .selection) ∙ e), rw (opened-parts .next) f) in
+      let c : coming q ≡ o .heading .first = ap (λ (s : Selection). comingBy s (q .issued || q .failed) (q .next)) (opened-parts .selection) ∙ opened-parts .next in
       subst (λ (b : ℕ). Counts b noMore (attempts q cs)) c (run-counts q i cs)
 
   -- and the tokens that are given are 0, 1, 2 and so on, all below 64
@@ -157,4 +182,4 @@ module _ (o : Opening) (unrefused : openedAs o .answer ≡ Opened.Open) where
       let m = counts (λ p. p .count) tokensBornBy (λ _. Unit {0}) (λ p _ c. call-gives p c) (λ p _ c. tt) q tt cs in
       let e : afterAll q cs .count ≡ q .count + length (tokens q cs) = m .1 in
       let l : afterAll q cs .count ≤ 64 = fit (afterAll q cs) (run-keeps q cs (opened-well-formed o)) .count in
-      subst (λ (b : ℕ). Counts b 64 (tokens q cs)) (bare .2) (record { exactly = m .0; below = omega arith })
+      subst (λ (b : ℕ). Counts b 64 (tokens q cs)) (opened-parts .count) (record { exactly = m .0; below = omega arith })

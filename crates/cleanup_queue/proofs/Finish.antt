@@ -2,7 +2,7 @@
 use Prim.Native.Nat.{ℕ}
 use mathlib.Core.Path.{_≡_, refl, ap, _∙_}
 use mathlib.Core.Bool.{Bool, true, false, not, _&&_}
-use mathlib.Core.List.{List, []}
+use mathlib.Core.List.{List, [], _∷_}
 use native.Mathlib.Omega.{arith}
 use borrow.Author.Tests.{not-true}
 use lib.Dec.{eqb}
@@ -13,7 +13,7 @@ use Rattle.choice.proofs.Ways.{hit, miss, pass, stop, and-left, and-right, clas
 use Rattle.stage.proofs.Sets.{same-means, means-same}
 use Rattle.queue_record.specs.Refusals.{noRetry}
 use Rattle.queue_record.specs.WellFormed.{wellFormed}
-use Rattle.queue_record.specs.Openings.{scopeOf}
+use Rattle.queue_record.specs.Openings.{scopeOf, iteratorOf}
 use Rattle.queue_record.specs.Waiting.{waiting}
 use Rattle.queue_record.specs.declared.record.Ticket.{Ticket}
 use Rattle.queue_record.specs.declared.record.Selection.{Selection}
@@ -64,10 +64,14 @@ module _ (q : Queue) (target : List ℕ) where
       ∙ ap yesOrNo (ap (λ (s : Selection). finishable s (q .phase) target (committed q)) (f .free)
       ∙ (pass _ (ap not (f .notPending)) ∙ (pass _ (ap not (f .notCancelled)) ∙ means-same target (committed q) (f .same))))
 
--- there is a record for which it says yes
+-- there is a record for which it says yes, and one with bindings: {4, 9}, target 9, 4, 9
 pub finish-happens : canFinishTold (scopeOf 0 0) [] ≡ Yes
 unfolding canFinishTold scopeOf wellFormed sameSet
 finish-happens = refl
+
+pub finish-with-bindings : canFinishTold (iteratorOf 0 0 (4 ∷ 9 ∷ [])) (9 ∷ 4 ∷ 9 ∷ []) ≡ Yes
+unfolding canFinishTold iteratorOf wellFormed sameSet
+finish-with-bindings = refl
 
 -- ---- a failed, emptied slot blocks
 module _ (q : Queue) (t : Ticket) (h : wellFormed q ≡ true) (e : q .selection ≡ Of t) (f : q .failed ≡ true) where

@@ -2,10 +2,15 @@
 use Prim.Native.Nat.{ℕ, _+_}
 use mathlib.Core.Path.{_≡_}
 use mathlib.Core.Bool.{false}
-use mathlib.Core.List.{[], _∷_, _++_}
+use mathlib.Core.List.{List, [], _∷_, _++_}
 use lib.Dec.{eqb}
-use lib.ListN.{set, take}
+use lib.ListN.{length, replicate, set, take}
 use Rattle.stage.specs.Phases.{isPending}
+use Rattle.stage.specs.declared.phases.Phase.{Phase}
+use Rattle.stage.specs.declared.phases.Phase.the-variants.{Idle, Ended}
+use Rattle.queue_record.specs.Openings.{Opening, bindingPlaces}
+use Rattle.queue_record.specs.declared.record.Kind.{Kind}
+use Rattle.queue_record.specs.declared.record.Kind.the-variants.{Scope, Iterator}
 use Rattle.queue_record.specs.Waiting.{waiting}
 use Rattle.queue_record.specs.declared.record.Ticket.{Ticket}
 use Rattle.queue_record.specs.declared.record.Selection.the-variants.{Free, Of}
@@ -19,6 +24,29 @@ use Rattle.queue_steps.specs.declared.attempts.PopAnswer.{PopAnswer}
 -- no token, nothing out, nothing selected, nothing waiting, and the stage not pending
 abbrev pub Fresh : Queue → Type 0
 Fresh q = (q .count ≡ 0) × (q .issued ≡ false) × (q .selection ≡ Free) × (waiting q ≡ []) × (isPending (q .phase) ≡ false)
+
+-- the phase that a kind starts in, and the bindings that it keeps
+abbrev pub startPhase : Kind → Phase
+startPhase Scope = Ended
+startPhase Iterator = Idle
+
+abbrev pub keptBindings : Kind → List ℕ → List ℕ
+keptBindings Scope bindings = []
+keptBindings Iterator bindings = bindings
+
+-- every part of what an opening leaves that was not refused
+pub record OpenedParts (o : Opening) (q : Queue) : Type 0 where
+  pub kind : q .kind ≡ o .heading .kind
+  pub domain : q .domain ≡ o .heading .domain
+  pub next : q .next ≡ o .heading .first
+  pub slots : q .slots ≡ replicate 64 0
+  pub count : q .count ≡ 0
+  pub selection : q .selection ≡ Free
+  pub failed : q .failed ≡ false
+  pub issued : q .issued ≡ false
+  pub phase : q .phase ≡ startPhase (o .heading .kind)
+  pub bindings : q .bindings ≡ bindingPlaces (keptBindings (o .heading .kind) (o .bindings))
+  pub bound : q .bound ≡ length (keptBindings (o .heading .kind) (o .bindings))
 
 -- kind, domain and bindings are those of the opening
 abbrev pub SameOpening : Queue → Queue → Type 0
