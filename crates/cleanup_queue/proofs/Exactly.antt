@@ -67,7 +67,7 @@ module _ (comes : Queue → ℕ) (by-call : Queue → Call → List ℕ) where
 
 -- ---- attempts
 -- in a run from an opening a selected ticket carries the attempt before next, and next is a u64
-abbrev Tight : Queue → Type 0
+abbrev pub Tight : Queue → Type 0
 Tight q = ((t : Ticket) → q .selection ≡ Of t → q .next ≡ t .attempt + 1) × (q .next ≤ noMore)
 
 abbrev Pops : Queue → List ℕ → Queue → Type 0
@@ -89,7 +89,7 @@ none-tight e = let z : _≡_ {A = ℕ} 0 1 = cc in absurd (omega arith)
 one-ticket : (s t : Ticket) → Of s ≡ Of t → s ≡ t
 one-ticket s t e = cc
 
-call-tight : (q : Queue) → Tight q → (c : Call) → Tight (after q c)
+pub call-tight : (q : Queue) → Tight q → (c : Call) → Tight (after q c)
 unfolding admitted ended cancelledBy
 call-tight q i (register n) = register-by (λ (r : RegisterAnswer). Tight (r .queue)) q n (λ _. i) (λ _ _ _. i)
 call-tight q i (land n) = land-by (λ (r : RegisterAnswer). Tight (r .queue)) q n (λ _. i) (λ _ _ _ _. i)
@@ -167,13 +167,15 @@ module _ (o : Opening) (unrefused : openedAs o .answer ≡ Opened.Open) where
   pub opened-parts : OpenedParts o (openedAs o .queue)
   opened-parts = parts-by (o .heading .kind) (o .heading .domain) (o .heading .first) (o .bindings) unrefused
 
+  pub opened-tight : o .heading .first ≤ noMore → Tight (openedAs o .queue)
+  opened-tight f = (λ t e. none-tight (sym (opened-parts .selection) ∙ e), rw (opened-parts .next) f)
+
   -- whatever is called, the attempts that are handed out are the first, plus 1, plus 2 and so on, all below 18446744073709551615
   pub attempts-exactly : o .heading .first ≤ noMore → (cs : List Call) → Counts (o .heading .first) noMore (attempts (openedAs o .queue) cs)
   attempts-exactly f cs =
       let q = openedAs o .queue in
-      let i : Tight q = (λ t e. none-tight (sym (opened-parts .selection) ∙ e), rw (opened-parts .next) f) in
       let c : coming q ≡ o .heading .first = ap (λ (s : Selection). comingBy s (q .issued || q .failed) (q .next)) (opened-parts .selection) ∙ opened-parts .next in
-      subst (λ (b : ℕ). Counts b noMore (attempts q cs)) c (run-counts q i cs)
+      subst (λ (b : ℕ). Counts b noMore (attempts q cs)) c (run-counts q (opened-tight f) cs)
 
   -- and the tokens that are given are 0, 1, 2 and so on, all below 64
   pub tokens-exactly : (cs : List Call) → Counts 0 64 (tokens (openedAs o .queue) cs)

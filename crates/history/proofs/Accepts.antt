@@ -27,7 +27,7 @@ unrefused s _ (opens e) = e
 unrefused s _ (calls {b} h c a) = unrefused s b h
 
 -- the words that a history leaves are whole rows, and belong
-history-words : (s : Start) (b : Bench) → History s b → WordsBelong (setting s) (wordsWritten b)
+pub history-words : (s : Start) (b : Bench) → History s b → WordsBelong (setting s) (wordsWritten b)
 history-words s b h =
     let w : b .used * 5 ≤ length (b .log) = stands s b h .within in
     let t : length (wordsWritten b) ≡ b .used * 5 = length-take-le (b .used * 5) (b .log) w in

@@ -6,8 +6,10 @@ pub mod CallOfRow
 pub mod Demand
 pub mod Accepts
 pub mod Exhibit
+pub mod RowWords
 pub mod Computed
 pub mod Outs
 pub mod Rising
 pub mod Lives
 pub mod Fitting
+pub mod WordLogs

@@ -138,7 +138,7 @@ module _ (q : Queue) where
   settled-changed t o k Completed.Settled h = refl
   settled-changed t o k (Completed.Refused n g) h = h
 
-  settled-row : (t : Ticket) (o k : ℕ) (a : Completed) → completeEntry t o k a .row ≡ completeRow (t .token) (t .attempt) o k
+  pub settled-row : (t : Ticket) (o k : ℕ) (a : Completed) → completeEntry t o k a .row ≡ completeRow (t .token) (t .attempt) o k
   settled-row t o k Completed.Settled = refl
   settled-row t o k (Completed.Refused n g) = refl
 
@@ -147,7 +147,7 @@ module _ (q : Queue) where
   told-changed kind was is Told.No h = h
   told-changed kind was is (Told.Refused n) h = clash h refl
 
-  told-row : (kind : ℕ) (was is : Phase) (a : Told) → stageEntry kind was is a .row ≡ stageRow kind
+  pub told-row : (kind : ℕ) (was is : Phase) (a : Told) → stageEntry kind was is a .row ≡ stageRow kind
   told-row kind was is Told.Yes = refl
   told-row kind was is Told.No = refl
   told-row kind was is (Told.Refused n) = refl
@@ -156,7 +156,7 @@ module _ (q : Queue) where
   cancelled-changed was is Cancelled.Done h = h
   cancelled-changed was is (Cancelled.Refused n) h = clash h refl
 
-  cancelled-row : (was is : Phase) (a : Cancelled) → cancelEntry was is a .row ≡ stageRow cancelKind
+  pub cancelled-row : (was is : Phase) (a : Cancelled) → cancelEntry was is a .row ≡ stageRow cancelKind
   cancelled-row was is Cancelled.Done = refl
   cancelled-row was is (Cancelled.Refused n) = refl
 
