@@ -30,7 +30,7 @@ use Rattle.group_endings.specs.declared.endings.Closed.the-variants.{Done}
 use Rattle.group_endings.specs.declared.endings.CloseAnswer.{CloseAnswer}
 use Rattle.group_openings.proofs.Room.{unsealed-means, means-unsealed}
 use Rattle.group_check.proofs.Spots.{spot-means}
-use Rattle.cleanup_groups.specs.Promises.{LiveAt, NothingLeft}
+use Rattle.cleanup_groups.specs.Promises.{LiveAt, DrainedQueue}
 use Rattle.cleanup_groups.proofs.ByCase.{close-by, seal-by}
 use Rattle.cleanup_groups.proofs.Sounds.{sound-means}
 use Rattle.cleanup_groups.proofs.Keeps.{spot-live}
@@ -42,7 +42,7 @@ yes-is No h = clash {b = false} h refl
 yes-is (Told.Refused n) h = clash {b = false} h refl
 
 -- a drained queue has no undo waiting, out or failed, and no pending stage
-pub drained-means : (q : Queue) → wellFormed q ≡ true → drained q ≡ true → NothingLeft q
+pub drained-means : (q : Queue) → wellFormed q ≡ true → drained q ≡ true → DrainedQueue q
 unfolding drained
 drained-means q w h =
     let e : isEmptyTold q ≡ Yes = yes-is (isEmptyTold q) (and-left (isYes (isEmptyTold q)) (isSettled (q .phase) && not (isPending (q .phase))) h) in
@@ -60,29 +60,29 @@ drained-means q w h =
     }
 
 -- and a queue with nothing left is drained
-pub means-drained : (q : Queue) → wellFormed q ≡ true → NothingLeft q → drained q ≡ true
+pub means-drained : (q : Queue) → wellFormed q ≡ true → DrainedQueue q → drained q ≡ true
 unfolding drained
 means-drained q w n = pass _ (ap isYes (means-empty q w (n .selection) (n .waiting))) ∙ (pass _ (n .settled) ∙ ap not (n .pending))
 
 -- ---- closing
 -- it was live, with nothing left, and its place is free
 pub close-means : (g : Groups) (id : ℕ) → length (g .places) ≡ 16 → removed g id .answer ≡ Done
-    → (i : ℕ) × (spotOf g id ≡ Spot.At i) × NothingLeft (queueAt g i) × (removed g id .groups ≡ withPlace g i freePlace)
+    → (i : ℕ) × (spotOf g id ≡ Spot.At i) × DrainedQueue (queueAt g i) × (removed g id .groups ≡ withPlace g i freePlace)
 close-means g id l =
-    close-by (λ (r : CloseAnswer). r .answer ≡ Done → (i : ℕ) × (spotOf g id ≡ Spot.At i) × NothingLeft (queueAt g i) × (r .groups ≡ withPlace g i freePlace)) g
+    close-by (λ (r : CloseAnswer). r .answer ≡ Done → (i : ℕ) × (spotOf g id ≡ Spot.At i) × DrainedQueue (queueAt g i) × (r .groups ≡ withPlace g i freePlace)) g
     (λ _ _ h. let z : _≡_ {A = ℕ} 0 1 = cc in absurd (omega arith)) id
     (λ i e d _. let s = spot-live g id i l e in (i, e, drained-means (queueAt g i) (sound-means g l (spot-means g id i e .0) .queues i (s .0) (s .1)) d, refl))
 
 -- ---- sealing
 -- every live group had nothing left, and none is live
-pub seal-drops : (g : Groups) → length (g .places) ≡ 16 → sealedIn g .answer ≡ Done → ((i : ℕ) → i < 16 → LiveAt g i → NothingLeft (queueAt g i)) × (sealedIn g .groups ≡ sealing g)
+pub seal-drops : (g : Groups) → length (g .places) ≡ 16 → sealedIn g .answer ≡ Done → ((i : ℕ) → i < 16 → LiveAt g i → DrainedQueue (queueAt g i)) × (sealedIn g .groups ≡ sealing g)
 seal-drops g l =
-    seal-by (λ (r : CloseAnswer). r .answer ≡ Done → ((i : ℕ) → i < 16 → LiveAt g i → NothingLeft (queueAt g i)) × (r .groups ≡ sealing g)) g
+    seal-by (λ (r : CloseAnswer). r .answer ≡ Done → ((i : ℕ) → i < 16 → LiveAt g i → DrainedQueue (queueAt g i)) × (r .groups ≡ sealing g)) g
     (λ _ _ h. let z : _≡_ {A = ℕ} 0 1 = cc in absurd (omega arith))
     (λ u d _. (λ i k a. drained-means (queueAt g i) (sound-means g l (unsealed-means g u .0) .queues i k a) (not-false _ (not-true _ (none-means g l Undrained [] (λ _ _. refl) d i k a))), refl))
 
 -- and it is done where nothing is left in any live group
-pub drained-seals : (g : Groups) → length (g .places) ≡ 16 → wellGrouped g ≡ true → g .sealed ≡ false → ((i : ℕ) → i < 16 → LiveAt g i → NothingLeft (queueAt g i)) → sealedIn g .answer ≡ Done
+pub drained-seals : (g : Groups) → length (g .places) ≡ 16 → wellGrouped g ≡ true → g .sealed ≡ false → ((i : ℕ) → i < 16 → LiveAt g i → DrainedQueue (queueAt g i)) → sealedIn g .answer ≡ Done
 unfolding sealedIn
 drained-seals g l w u f =
     let n : someYes g Undrained [] ≡ false = means-none g l Undrained [] (λ _ _. refl) (λ i k a. ap not (ap not (means-drained (queueAt g i) (sound-means g l w .queues i k a) (f i k a)))) in

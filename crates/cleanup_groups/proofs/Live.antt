@@ -40,7 +40,7 @@ use Rattle.group_endings.specs.declared.endings.CloseAnswer.{CloseAnswer}
 use Rattle.group_steps.specs.Births.{bornAt, registeredAt, registeredIn, landedAt, landedIn}
 use Rattle.group_steps.specs.Attempts.{handedAt, poppedAt, poppedIn, settledAt, completedAt, completedIn, renewedAt, retriedAt, retriedIn}
 use Rattle.group_stages.specs.Stages.{movedAt, admittedAt, admittedIn, admittedAtWithout, admittedInWithout, endedAt, endedIn, stoppedAt, cancelledAt, cancelledIn}
-use Rattle.cleanup_groups.specs.Promises.{LiveAt, idAt, IsLive, Sound, NothingLeft}
+use Rattle.cleanup_groups.specs.Promises.{LiveAt, idAt, IsLive, Sound, DrainedQueue}
 use Rattle.cleanup_groups.proofs.Sounds.{sound-means}
 use Rattle.cleanup_groups.proofs.Asked.{means-some}
 use Rattle.cleanup_groups.proofs.Placed.{by-place}
@@ -145,7 +145,7 @@ module _ (g : Groups) (id i : ℕ) (l : length (g .places) ≡ 16) (w : wellGrou
   accepts-as = ap negation (told-as isCancelledTold ∙ yes-asked (queueAt g i) (isCancelled (queueAt g i .phase)) sound) ∙ turned (isCancelled (queueAt g i .phase))
 
   -- a group with nothing left can be closed
-  pub drained-closes : NothingLeft (queueAt g i) → removed g id .answer ≡ Done
+  pub drained-closes : DrainedQueue (queueAt g i) → removed g id .answer ≡ Done
   unfolding removed
   drained-closes n = ap (λ (s : Spot). removedAt g s .answer) spot ∙ ap (λ (r : CloseAnswer). r .answer) (miss _ (ap not (means-drained (queueAt g i) sound n)))
 

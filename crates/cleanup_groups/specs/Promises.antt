@@ -47,7 +47,7 @@ abbrev pub EveryLive : Groups → (ℕ → Queue → Bool) → Type 0
 EveryLive g asks = (i : ℕ) → i < 16 → LiveAt g i → asks (idAt g i) (queueAt g i) ≡ true
 
 -- nothing is left in a queue: no undo in any slot, selected, out or failed, and no pending stage
-pub record NothingLeft (q : Queue) : Type 0 where
+pub record DrainedQueue (q : Queue) : Type 0 where
   pub selection : q .selection ≡ Free
   pub slots : (k : ℕ) → slot q k ≡ 0
   pub waiting : waiting q ≡ []

@@ -5,10 +5,10 @@ use mathlib.Core.Logic.{_⊎_, inl, inr, ⊎-elim}
 use mathlib.Core.Bool.{Bool, true, false, not, _||_}
 use mathlib.Core.List.{List, [], _∷_, _++_}
 use native.Mathlib.Omega.{arith}
-use borrow.Author.Tests.{ltb-true, leb-true}
-use lib.Dec.{eqb, ltb, leb}
+use borrow.Author.Tests.{ltb-true}
+use lib.Dec.{eqb}
 use lib.ListN.{length}
-use Rattle.choice.proofs.Ways.{if-by, and-left, and-right}
+use Rattle.choice.proofs.Ways.{if-by, and-right}
 use Rattle.queue_record.specs.WellFormed.{wellFormed}
 use Rattle.queue_record.specs.Openings.{Opening, headingOf, openingOf, scopeOf, iteratorOf, openedBy, openedAs}
 use Rattle.queue_record.specs.declared.record.Kind.{Kind}
@@ -21,7 +21,7 @@ use Rattle.queue_record.specs.declared.openings.Opened.{Opened}
 use Rattle.queue_record.proofs.Fit.{fit}
 use Rattle.queue_record.proofs.Opened.{iterator-open, opened-well-formed}
 use Rattle.queue_decisions.specs.Slots.{noMore}
-use Rattle.queue_steps.specs.Attempts.{slot, freshTicket, renewed, popped, retryAllowed}
+use Rattle.queue_steps.specs.Attempts.{slot, freshTicket, renewed, popped}
 use Rattle.queue_births.specs.declared.births.RegisterAnswer.{RegisterAnswer}
 use Rattle.queue_steps.specs.declared.attempts.PopAnswer.{PopAnswer}
 use Rattle.queue_steps.specs.declared.attempts.CompleteAnswer.{CompleteAnswer}
@@ -33,8 +33,8 @@ use Rattle.cleanup_queue.specs.Runs.{Call, register, land, pop, complete
 use Rattle.cleanup_queue.specs.Parts.{OpenedParts}
 use Rattle.cleanup_queue.proofs.ByCase.{register-by, land-by, pop-by, complete-by, retry-by}
 use Rattle.cleanup_queue.proofs.Keeps.{run-keeps}
-use Rattle.cleanup_queue.proofs.Rises.{comingBy, coming, Waits, fresh-comes, ready-comes, step-by}
-use Rattle.cleanup_queue.proofs.Births.{Gives, call-gives}
+use Rattle.cleanup_queue.proofs.Rises.{comingBy, coming, fresh-comes, ready-comes, step-by}
+use Rattle.cleanup_queue.proofs.Births.{call-gives}
 
 -- ---- a list that a run makes, call by call: nothing, or the number that comes, which then is 1 more
 module _ (comes : Queue → ℕ) (by-call : Queue → Call → List ℕ) where

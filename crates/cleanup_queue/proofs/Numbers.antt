@@ -9,7 +9,7 @@ use Rattle.stage.specs.Phases.{isPending, isSettled, isCancelled}
 use Rattle.choice.proofs.Ways.{if-by}
 use Rattle.queue_record.specs.WellFormed.{wellFormed}
 use Rattle.queue_record.specs.Waiting.{waiting}
-use Rattle.queue_record.specs.Openings.{iteratorOpened}
+use Rattle.queue_record.specs.Openings.{Opening, openedAs}
 use Rattle.queue_record.specs.declared.record.Ticket.{Ticket}
 use Rattle.queue_record.specs.declared.record.Queue.{Queue}
 use Rattle.queue_births.specs.Births.{registered, landed}
@@ -45,9 +45,9 @@ said-number (d ∷ ds) back own = due-if (λ (s : Said). s .number) (d .case) _ 
 first : {s : Said} (ds : List Ground) (back own : List ℕ) → s ≡ firstSaid ds back own → s .number ≡ firstDue ds
 first ds back own e = ap (λ (s : Said). s .number) e ∙ said-number ds back own
 
--- ---- the opening of an iterator
-pub opening-number : (domain first : ℕ) (bindings : List ℕ) → openedSays (iteratorOpened domain first bindings .answer) .number ≡ firstDue (openingOrder bindings)
-opening-number domain start bindings = first (openingOrder bindings) [] [] (opening-said domain start bindings)
+-- ---- the openings
+pub opening-number : (o : Opening) → openedSays (openedAs o .answer) .number ≡ firstDue (openingOrder o)
+opening-number o = first (openingOrder o) [] [] (opening-said o)
 
 -- ---- the calls that change the queue
 pub register-number : (q : Queue) (n : ℕ) → registeredSays (registered q n .answer) .number ≡ firstDue (registerOrder q n)

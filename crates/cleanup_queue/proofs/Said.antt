@@ -13,7 +13,10 @@ use Rattle.queue_record.specs.Refusals.{noAttempt, noRetry, hollow}
 use Rattle.queue_record.specs.WellFormed.{wellFormed}
 use Rattle.queue_record.specs.Waiting.{waiting}
 use Rattle.queue_record.specs.Newest.{newest, isThere}
-use Rattle.queue_record.specs.Openings.{blank, iteratorOpened}
+use Rattle.queue_record.specs.Openings.{Opening, headingOf, openingOf, blank, scopeOpened, iteratorOpened, openedBy, openedAs}
+use Rattle.queue_record.proofs.Opened.{opened-refused}
+use Rattle.queue_record.specs.declared.record.Kind.{Kind}
+use Rattle.queue_record.specs.declared.record.Kind.the-variants.{Scope, Iterator}
 use Rattle.queue_record.specs.declared.openings.Opened.{Opened}
 use Rattle.queue_record.specs.declared.openings.OpenAnswer.{OpenAnswer}
 use Rattle.queue_record.specs.declared.search.Found.{Found}
@@ -58,21 +61,29 @@ pub due-if : {A B : Type 0} (said : A → B) (b : Bool) (x y : A) {k m : B} → 
 due-if said true x y p q = p
 due-if said false x y p q = q
 
--- ---- the opening of an iterator
-module _ (domain first : ℕ) (bindings : List ℕ) where
-  pub opening-said : openedSays (iteratorOpened domain first bindings .answer) ≡ firstSaid (openingOrder bindings) [] []
-  unfolding iteratorOpened
-  opening-said = due-if (λ (r : OpenAnswer). openedSays (r .answer)) (ltb 16 (length bindings)) _ _ refl refl
+-- ---- the openings
+opening-by : (P : Opening → OpenAnswer → Type 0) → ((d f : ℕ) (bs : List ℕ) → P (openingOf (headingOf Scope d f) bs) (scopeOpened d f))
+    → ((d f : ℕ) (bs : List ℕ) → P (openingOf (headingOf Iterator d f) bs) (iteratorOpened d f bs)) → (o : Opening) → P o (openedAs o)
+opening-by P scope iterator o = go (o .heading .kind) (o .heading .domain) (o .heading .first) (o .bindings)
+  where
+    go : (k : Kind) (d f : ℕ) (bs : List ℕ) → P (openingOf (headingOf k d f) bs) (openedBy k d f bs)
+    go Scope d f bs = scope d f bs
+    go Iterator d f bs = iterator d f bs
 
-  pub opening-refused : RefusedAs blank [] (openedSays (iteratorOpened domain first bindings .answer)) (iteratorOpened domain first bindings .queue)
-  unfolding iteratorOpened
-  opening-refused = if-by (λ (r : OpenAnswer). RefusedAs blank [] (openedSays (r .answer)) (r .queue)) (ltb 16 (length bindings)) _ _ (λ _ _. (refl, refl)) (λ _ n. absurd (n refl))
+pub opening-said : (o : Opening) → openedSays (openedAs o .answer) ≡ firstSaid (openingOrder o) [] []
+unfolding iteratorOpened
+opening-said =
+    opening-by (λ (o : Opening) (x : OpenAnswer). openedSays (x .answer) ≡ firstSaid (openingOrder o) [] []) (λ _ _ _. refl)
+    (λ d f bs. due-if (λ (r : OpenAnswer). openedSays (r .answer)) (ltb 16 (length bs)) _ _ refl refl)
 
-  pub opening-no-zero : iteratorOpened domain first bindings .answer ≡ Opened.Refused 0 → ⊥
-  unfolding iteratorOpened
-  opening-no-zero =
-      if-by (λ (r : OpenAnswer). r .answer ≡ Opened.Refused 0 → ⊥) (ltb 16 (length bindings)) _ _
-      (λ _ e. let z : _≡_ {A = ℕ} 14 0 = cc in omega arith) (λ _ e. let z : _≡_ {A = ℕ} 0 1 = cc in omega arith)
+pub opening-refused : (o : Opening) → RefusedAs blank [] (openedSays (openedAs o .answer)) (openedAs o .queue)
+unfolding iteratorOpened
+opening-refused =
+    opening-by (λ (_ : Opening) (x : OpenAnswer). RefusedAs blank [] (openedSays (x .answer)) (x .queue)) (λ _ _ _ n. absurd (n refl))
+    (λ d f bs. if-by (λ (r : OpenAnswer). RefusedAs blank [] (openedSays (r .answer)) (r .queue)) (ltb 16 (length bs)) _ _ (λ _ _. (refl, refl)) (λ _ n. absurd (n refl)))
+
+pub opening-no-zero : (o : Opening) → openedAs o .answer ≡ Opened.Refused 0 → ⊥
+opening-no-zero o e = let n : _≡_ {A = ℕ} 0 14 = opened-refused 0 o e .0 in omega arith
 
 -- ---- register and land
 module _ (q : Queue) (n : ℕ) where

@@ -8,6 +8,7 @@ use lib.ListN.{length}
 use Rattle.choice.specs.Choice.{if_then_else_, bit}
 use Rattle.stage.specs.Phases.{isPending}
 use Rattle.queue_record.specs.Refusals.{done, broken, badNumber, noSlot, notPending, noAttempt, notOut, keptOnDone, noRetry, hollow, badOutcome, tooManyBindings}
+use Rattle.queue_record.specs.Openings.{Opening, keptBindings}
 use Rattle.queue_record.specs.WellFormed.{wellFormed}
 use Rattle.queue_record.specs.Waiting.{waiting}
 use Rattle.queue_record.specs.Newest.{newest, isThere}
@@ -45,9 +46,9 @@ firstSaid (d ∷ ds) back own = if d .case then says (d .number) back else first
 abbrev pub RefusedAs : Queue → List ℕ → Said → Queue → Type 0
 RefusedAs q back s p = (s .number ≡ 0 → ⊥) → (s .values ≡ back) × (p ≡ q)
 
--- an iterator's opening 14
-abbrev pub openingOrder : List ℕ → List Ground
-openingOrder bindings = due tooManyBindings (ltb 16 (length bindings)) ∷ []
+-- an opening 14, of the bindings that its kind keeps: a scope keeps none
+abbrev pub openingOrder : Opening → List Ground
+openingOrder o = due tooManyBindings (ltb 16 (length (keptBindings (o .heading .kind) (o .bindings)))) ∷ []
 
 -- register 1, 2, 3
 abbrev pub registerOrder : Queue → ℕ → List Ground

@@ -2,13 +2,13 @@
 use Prim.Native.Nat.{ℕ, _+_}
 use mathlib.Core.Path.{_≡_}
 use mathlib.Core.Bool.{false}
-use mathlib.Core.List.{List, [], _∷_, _++_}
+use mathlib.Core.List.{[], _∷_, _++_}
 use lib.Dec.{eqb}
 use lib.ListN.{length, replicate, set, take}
 use Rattle.stage.specs.Phases.{isPending}
 use Rattle.stage.specs.declared.phases.Phase.{Phase}
 use Rattle.stage.specs.declared.phases.Phase.the-variants.{Idle, Ended}
-use Rattle.queue_record.specs.Openings.{Opening, bindingPlaces}
+use Rattle.queue_record.specs.Openings.{Opening, bindingPlaces, keptBindings}
 use Rattle.queue_record.specs.declared.record.Kind.{Kind}
 use Rattle.queue_record.specs.declared.record.Kind.the-variants.{Scope, Iterator}
 use Rattle.queue_record.specs.Waiting.{waiting}
@@ -25,14 +25,10 @@ use Rattle.queue_steps.specs.declared.attempts.PopAnswer.{PopAnswer}
 abbrev pub Fresh : Queue → Type 0
 Fresh q = (q .count ≡ 0) × (q .issued ≡ false) × (q .selection ≡ Free) × (waiting q ≡ []) × (isPending (q .phase) ≡ false)
 
--- the phase that a kind starts in, and the bindings that it keeps
+-- the phase that a kind starts in
 abbrev pub startPhase : Kind → Phase
 startPhase Scope = Ended
 startPhase Iterator = Idle
-
-abbrev pub keptBindings : Kind → List ℕ → List ℕ
-keptBindings Scope bindings = []
-keptBindings Iterator bindings = bindings
 
 -- every part of what an opening leaves that was not refused
 pub record OpenedParts (o : Opening) (q : Queue) : Type 0 where

@@ -1,5 +1,5 @@
 // The public face of a cleanup queue: the record, its check, the openings, the calls, the refusals' names and the limits. No other
-// call is public: blank, set_kind, select and move_to make records for who writes them by hand.
+// call is public.
 pub use queue_births::RegisterAnswer;
 pub use queue_births::Registered;
 pub use queue_births::land;
@@ -15,22 +15,17 @@ pub use queue_questions::is_empty;
 pub use queue_questions::is_issued;
 pub use queue_questions::is_pending;
 pub use queue_questions::is_settled;
-pub use queue_record::BINDINGS;
-pub use queue_record::Heading;
 pub use queue_record::Kind;
+pub use queue_record::MOST_BINDINGS;
+pub use queue_record::MOST_TOKENS;
 pub use queue_record::OpenAnswer;
 pub use queue_record::Opened;
 pub use queue_record::Queue;
 pub use queue_record::Selection;
-pub use queue_record::TOKENS;
 pub use queue_record::Ticket;
-pub use queue_record::blank;
 pub use queue_record::iterator;
-pub use queue_record::move_to;
 pub use queue_record::refusal;
 pub use queue_record::scope;
-pub use queue_record::select;
-pub use queue_record::set_kind;
 pub use queue_record::well_formed;
 pub use queue_stages::CancelAnswer;
 pub use queue_stages::Cancelled;

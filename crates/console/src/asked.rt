@@ -7,7 +7,7 @@ use cleanup_queue::Queue;
 use cleanup_queue::Told;
 
 // A check's yes or no, as the questions say it.
-fn told(yes: bool) -> Told {
+fn say(yes: bool) -> Told {
     if yes {
         return Told::Yes;
     }
@@ -24,7 +24,7 @@ pub fn of_queue(q: Queue, number: u64, target: &[u64]) -> Told {
         25 => cleanup_queue::has_failed(q),
         26 => cleanup_queue::can_retry(q),
         27 => cleanup_queue::can_finish(q, target),
-        _ => told(cleanup_queue::well_formed(q)),
+        _ => say(cleanup_queue::well_formed(q)),
     }
 }
 
@@ -38,7 +38,7 @@ fn told_of_group(g: Groups, number: u64, id: u64, target: &[u64]) -> Told {
         85 => cleanup_groups::group_has_failed(g, id),
         86 => cleanup_groups::group_can_retry(g, id),
         87 => cleanup_groups::group_can_finish(g, id, target),
-        _ => told(cleanup_groups::well_grouped(g)),
+        _ => say(cleanup_groups::well_grouped(g)),
     }
 }
 

@@ -1,19 +1,19 @@
 // One field of a queue set by its number.
 use cleanup_queue::Kind;
+use cleanup_queue::MOST_BINDINGS;
+use cleanup_queue::MOST_TOKENS;
 use cleanup_queue::Phase;
 use cleanup_queue::Queue;
 use cleanup_queue::Selection;
 use cleanup_queue::Ticket;
-use cleanup_queue::move_to;
-use cleanup_queue::select;
 
 // Whether the field, the index and the value are in their ranges.
 pub fn fits(field: u64, index: u64, value: u64) -> bool {
     match field {
         0 | 5 | 9 | 10 => value < 2,
-        3 => index < 64,
+        3 => index < MOST_TOKENS,
         11 => value < 5,
-        12 => index < 16,
+        12 => index < MOST_BINDINGS,
         _ => field < 14,
     }
 }
@@ -23,7 +23,7 @@ fn set_kind(q: Queue, value: u64) -> Queue {
         0 => Kind::Scope,
         _ => Kind::Iterator,
     };
-    cleanup_queue::set_kind(q, kind)
+    queue_record::set_kind(q, kind)
 }
 
 fn set_phase(q: Queue, value: u64) -> Queue {
@@ -34,7 +34,7 @@ fn set_phase(q: Queue, value: u64) -> Queue {
         3 => Phase::Stopping,
         _ => Phase::Closed,
     };
-    move_to(q, phase)
+    queue_record::move_to(q, phase)
 }
 
 fn set_number(q: Queue, field: u64, value: u64) -> Queue {
@@ -80,10 +80,10 @@ pub fn ticket_in(selection: Selection) -> Ticket {
 
 fn set_selected(q: Queue, value: u64) -> Queue {
     if value == 0 {
-        return select(q, Selection::Free);
+        return queue_record::select(q, Selection::Free);
     }
     let was = q.selection;
-    select(q, Selection::Of(ticket_in(was)))
+    queue_record::select(q, Selection::Of(ticket_in(was)))
 }
 
 fn set_ticket(q: Queue, field: u64, value: u64) -> Queue {
@@ -94,7 +94,7 @@ fn set_ticket(q: Queue, field: u64, value: u64) -> Queue {
         7 => ticket.token = value,
         _ => ticket.attempt = value,
     }
-    select(q, Selection::Of(ticket))
+    queue_record::select(q, Selection::Of(ticket))
 }
 
 // A field that fits.

@@ -21,7 +21,8 @@ pub struct Held {
 }
 
 pub fn start() -> Held {
-    let blank = cleanup_queue::blank();
+    let opening = cleanup_queue::scope(0, 0);
+    let blank = opening.queue;
     Held {
         queue: blank,
         seen: blank,

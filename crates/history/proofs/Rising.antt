@@ -1,9 +1,7 @@
 -- Attempts rise by 1 from the first: what holds of every history
 use Prim.Native.Nat.{ℕ, _+_, _<_}
-use mathlib.Core.Path.{_≡_, refl, ap, _∙_}
+use mathlib.Core.Path.{_≡_}
 use lib.ListN.{length, getD}
-use Rattle.queue_record.specs.declared.record.Kind.{Kind}
-use Rattle.queue_record.specs.declared.record.Kind.the-variants.{Scope, Iterator}
 use Rattle.log_rows.specs.declared.Row.{Row}
 use Rattle.log_language.specs.Readings.{keep}
 use Rattle.log_language.specs.RowKinds.{is}

@@ -1,24 +1,19 @@
 -- The row that a call with 64-bit inputs writes is five words of 64 bits
-use Prim.Native.Nat.{ℕ, _+_, _<_, _≤_}
-use mathlib.Core.Path.{_≡_, refl, sym, ap, _∙_}
-use mathlib.Core.Bool.{Bool, true, false, not}
-use mathlib.Core.List.{List, [], _∷_}
+use Prim.Native.Nat.{ℕ, _<_, _≤_}
+use mathlib.Core.Path.{_≡_, refl, _∙_}
+use mathlib.Core.Bool.{true}
+use mathlib.Core.List.{[], _∷_}
 use native.Mathlib.Omega.{arith}
-use borrow.Author.Tests.{le-leb, leb-true, ltb-true}
-use lib.Dec.{eqb, leb, ltb}
+use borrow.Author.Tests.{le-leb}
 use Rattle.choice.proofs.Ways.{pass, clash, and-left, and-right}
 use Rattle.queue_record.specs.WellFormed.{wellFormed}
-use Rattle.queue_record.specs.declared.record.Ticket.{Ticket}
-use Rattle.queue_record.specs.declared.record.Selection.the-variants.{Of}
 use Rattle.queue_record.specs.declared.record.Queue.{Queue}
 use Rattle.queue_record.proofs.Fit.{fit, selected-born, selected-before}
 use Rattle.queue_record.proofs.Zeros.{full-below}
 use Rattle.queue_decisions.specs.Slots.{noMore}
-use Rattle.queue_births.specs.Births.{registered, landed}
 use Rattle.queue_births.specs.declared.births.RegisterAnswer.{RegisterAnswer}
-use Rattle.queue_steps.specs.Attempts.{slot, popped, completed, retried}
+use Rattle.queue_steps.specs.Attempts.{completed}
 use Rattle.queue_steps.specs.declared.attempts.PopAnswer.{PopAnswer}
-use Rattle.queue_steps.specs.declared.attempts.Completed.{Completed}
 use Rattle.queue_steps.specs.declared.attempts.RetryAnswer.{RetryAnswer}
 use Rattle.queue_stages.specs.Stages.{admitted, ended, cancelledBy}
 use Rattle.cleanup_queue.specs.Runs.{Call, register, land, pop, complete, retry, admit, end, cancel}

@@ -11,14 +11,13 @@ use lib.Seq.{length-take-le, take-append-seam}
 use Rattle.choice.proofs.Ways.{pass, and-left, and-right}
 use Rattle.queue_record.specs.WellFormed.{wellFormed}
 use Rattle.queue_record.specs.Refusals.{done}
-use Rattle.queue_record.specs.Openings.{Opening, openedAs}
+use Rattle.queue_record.specs.Openings.{Opening, keptBindings, openedAs}
 use Rattle.queue_record.specs.declared.record.Kind.{Kind}
 use Rattle.queue_record.specs.declared.record.Kind.the-variants.{Scope, Iterator}
 use Rattle.queue_record.specs.declared.record.Queue.{Queue}
 use Rattle.queue_decisions.specs.Slots.{noMore}
 use Rattle.queue_questions.specs.Questions.{committed}
 use Rattle.cleanup_queue.specs.Runs.{Call, register, land, pop, complete, retry, admit, end, cancel, after}
-use Rattle.cleanup_queue.specs.Parts.{keptBindings}
 use Rattle.cleanup_queue.proofs.Upstream.{call-keeps-opening}
 use Rattle.cleanup_queue.proofs.Targets.{target-there}
 use Rattle.cleanup_queue.proofs.Exactly.{Tight, call-tight, opened-parts, opened-tight}
@@ -33,7 +32,7 @@ use Rattle.log_language.proofs.FirstBad.{words-belong}
 use Rattle.log_reader.specs.Reader.{settingOf}
 use Rattle.cleanup_log.specs.Entries.{entryOf}
 use Rattle.cleanup_log.proofs.Changes.{call-changes}
-use Rattle.history.specs.Histories.{Bench, bench, called, numberOf, Start, History, opens, calls, Made, noCall, oneCall, wordsWritten, rowsOf}
+use Rattle.history.specs.Histories.{Bench, called, numberOf, Start, History, opens, calls, Made, noCall, oneCall, wordsWritten, rowsOf}
 use Rattle.history.specs.Fits.{isWord, fits, rowFits, LeftByFitting}
 use Rattle.history.specs.Benches.{BenchCall, callOn, wordsGiven, Called, calledNone, calledOne, WordOpening, LeftIn}
 use Rattle.history.proofs.Written.{benches, accepted-is}

@@ -1,5 +1,5 @@
 // What refuses a register or a land; 0 where nothing does.
-use queue_record::TOKENS;
+use queue_record::MOST_TOKENS;
 use queue_record::refusal::BAD_NUMBER;
 use queue_record::refusal::NO_SLOT;
 use queue_record::refusal::NOT_PENDING;
@@ -13,7 +13,7 @@ pub fn register_refusal(number: u64, count: u64) -> u64
     if number == 0 {
         return BAD_NUMBER;
     }
-    if TOKENS <= count {
+    if MOST_TOKENS <= count {
         return NO_SLOT;
     }
     0
@@ -28,7 +28,7 @@ pub fn land_refusal(number: u64, phase: Phase, count: u64) -> u64
     if !stage::pending(phase) {
         return NOT_PENDING;
     }
-    if TOKENS <= count {
+    if MOST_TOKENS <= count {
         return NO_SLOT;
     }
     0

@@ -60,6 +60,11 @@ iteratorOpened domain first bindings =
     if ltb 16 (length bindings) then record { answer = Refused tooManyBindings; queue = blank } else
     record { answer = Open; queue = iteratorOf domain first bindings }
 
+-- the bindings that a kind keeps
+abbrev pub keptBindings : Kind → List ℕ → List ℕ
+keptBindings Scope bindings = []
+keptBindings Iterator bindings = bindings
+
 -- any opening; a scope looks at no bindings
 abbrev pub openedBy : Kind → ℕ → ℕ → List ℕ → OpenAnswer
 openedBy Scope domain first bindings = scopeOpened domain first

@@ -1,6 +1,6 @@
 // Whether a record is well formed: one test for each clause.
-use crate::limits::BINDINGS;
-use crate::limits::TOKENS;
+use crate::limits::MOST_BINDINGS;
+use crate::limits::MOST_TOKENS;
 use crate::record::Kind;
 use crate::record::Queue;
 use crate::record::Selection;
@@ -70,10 +70,10 @@ pub fn slot_fits(failed: bool, issued: bool, number: u64) -> bool
 pub fn well_formed(q: Queue) -> bool
     ensures { λ r. ⌜ r ≡ wellFormed q ⌝ }
 {
-    if TOKENS < q.count {
+    if MOST_TOKENS < q.count {
         return false;
     }
-    if BINDINGS < q.bound {
+    if MOST_BINDINGS < q.bound {
         return false;
     }
     let slots = q.slots;

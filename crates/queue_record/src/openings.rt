@@ -1,5 +1,5 @@
 // The openings: a scope, and an iterator with its committed bindings.
-use crate::limits::BINDINGS;
+use crate::limits::MOST_BINDINGS;
 use crate::record::Kind;
 use crate::record::Queue;
 use crate::record::Selection;
@@ -94,7 +94,7 @@ pub fn iterator(domain: u64, first: u64, bindings: &[u64]) -> OpenAnswer
     ensures { λ r. ⌜ r ≡ iteratorOpened domain first (now (bindings .entry)) ⌝ }
 {
     let bound = bindings.len() as u64;
-    if BINDINGS < bound {
+    if MOST_BINDINGS < bound {
         let none = blank();
         return OpenAnswer {
             answer: Opened::Refused(TOO_MANY_BINDINGS),

@@ -9,7 +9,6 @@ use Rattle.stage.specs.declared.phases.Event.the-variants.{End, Cancel}
 use Rattle.choice.proofs.Ways.{hit, miss}
 use Rattle.queue_record.specs.Refusals.{broken}
 use Rattle.queue_record.specs.Record.{withPhase}
-use Rattle.queue_questions.specs.Questions.{matches}
 use Rattle.queue_stages.specs.Stages.{afterAdmit, admitted, ended, cancelledBy}
 use Rattle.queue_words.specs.Layout.{atPhase}
 use Rattle.queue_words.specs.Words.{word, queueOf, wordsOf, isSound}

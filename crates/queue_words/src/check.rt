@@ -73,11 +73,11 @@ fn places_fit(w: &Words) -> bool
     ensures { λ r. ⌜ r ≡ placesFit (queueOf (now (w .entry))) ⌝ }
 {
     let count = w[COUNT];
-    if queue_record::TOKENS < count {
+    if queue_record::MOST_TOKENS < count {
         return false;
     }
     let bound = w[BOUND];
-    if queue_record::BINDINGS < bound {
+    if queue_record::MOST_BINDINGS < bound {
         return false;
     }
     let words = &w[..];

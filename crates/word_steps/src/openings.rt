@@ -7,7 +7,6 @@ use queue_words::put_blank;
 use queue_words::put_iterator;
 use queue_words::put_run;
 use queue_words::put_scope;
-ghost use mathlib.Core.Path.{_≡_};
 ghost use Rattle.queue_record.specs.Openings.{openingOf, scopeOpened, iteratorOpened, openedAs};
 ghost use Rattle.queue_words.specs.Exported.{OpensOn};
 
@@ -22,7 +21,7 @@ pub fn open_iterator(queue: &mut Words, domain: u64, first: u64, bindings: &[u64
     ensures { λ r. ⌜ OpensOn (iteratorOpened domain first (now (bindings .entry))) r (now (queue .exit)) ⌝ }
 {
     let bound = bindings.len() as u64;
-    if queue_record::BINDINGS < bound {
+    if queue_record::MOST_BINDINGS < bound {
         put_blank(queue);
         return TOO_MANY_BINDINGS;
     }

@@ -1,16 +1,12 @@
 -- Refused with the blank queue, or open with the given bindings
-use Prim.Native.Nat.{ℕ}
-use mathlib.Core.Path.{_≡_, sym, ap, _∙_}
-use mathlib.Core.List.{List}
+use mathlib.Core.Path.{sym, ap, _∙_}
 use borrow.Author.Tests.{lt-ltb, le-ltb}
 use Rattle.choice.proofs.Ways.{hit, miss}
-use Rattle.stage.specs.declared.phases.Phase.the-variants.{Idle}
-use Rattle.queue_record.specs.Openings.{started, headingOf, iteratorOpened, iteratorOf}
+use Rattle.queue_record.specs.Openings.{started, iteratorOpened, iteratorOf}
 use Rattle.queue_record.specs.Refusals.{tooManyBindings}
 use Rattle.queue_record.specs.declared.openings.Opened.{Opened}
 use Rattle.queue_record.specs.declared.openings.Opened.the-variants.{Open, Refused}
 use Rattle.queue_record.specs.declared.openings.OpenAnswer.{OpenAnswer}
-use Rattle.queue_record.specs.declared.record.Kind.the-variants.{Iterator}
 use Rattle.queue_record.specs.declared.record.Queue.{Queue}
 use borrow.Author.Needs.{needs}
 use Rattle.queue_record.proofs.openings.iterator.Statement.{statement}

@@ -1,6 +1,6 @@
 -- The opening of the heading's kind
 use Prim.Native.Nat.{ℕ}
-use mathlib.Core.Path.{_≡_, refl, sym, ap, _∙_}
+use mathlib.Core.Path.{_≡_, sym, ap, _∙_}
 use mathlib.Core.List.{List}
 use Rattle.queue_record.specs.Openings.{openingOf, openedBy, openedAs}
 use Rattle.queue_record.specs.declared.openings.Heading.{Heading}

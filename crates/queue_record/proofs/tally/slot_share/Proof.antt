@@ -1,6 +1,5 @@
 -- Empty, the selected one, or one that waits
 use mathlib.Core.Path.{_≡_, sym, _∙_, ap}
-use Prim.Native.Nat.{ℕ}
 use borrow.Author.Tests.{eq-eqb, ne-eqb}
 use Rattle.choice.proofs.Ways.{hit, miss}
 use Rattle.queue_record.specs.Waiting.{share, shareOf}

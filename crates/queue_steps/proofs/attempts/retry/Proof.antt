@@ -8,7 +8,7 @@ use Rattle.queue_record.specs.declared.record.Queue.{Queue}
 use Rattle.queue_decisions.specs.Slots.{noMore}
 use Rattle.queue_decisions.specs.declared.renewals.Renewal.{Renewal}
 use Rattle.queue_decisions.proofs.RenewalLaws.{renewal-low}
-use Rattle.queue_steps.specs.Attempts.{dueAgainIn, retriedAs, retried}
+use Rattle.queue_steps.specs.Attempts.{retriedAs, retried}
 use Rattle.queue_steps.specs.declared.attempts.Retried.the-variants.{Again}
 use Rattle.queue_steps.specs.declared.attempts.RetryAnswer.{RetryAnswer}
 use borrow.Author.Needs.{needs}

@@ -4,7 +4,6 @@ use mathlib.Core.Path.{_≡_, sym, ap, _∙_}
 use mathlib.Core.Bool.{Bool, _&&_}
 use mathlib.Core.List.{List}
 use borrow.Author.Tests.{le-leb, lt-leb, not-true, not-false}
-use Rattle.stage.specs.declared.phases.Phase.{Phase}
 use Rattle.choice.proofs.Ways.{pass, stop}
 use Rattle.queue_record.specs.WellFormed.{bindingsFit, restZero, scopeFits}
 use Rattle.queue_record.specs.declared.record.Kind.{Kind}

@@ -11,7 +11,6 @@ use Rattle.queue_words.specs.Words.{queueOf}
 use Rattle.queue_words.specs.Exported.{exported, answerOf, refusedOn, onRecord, completeExported}
 use Rattle.queue_words.proofs.OnWords.{sound-on, same-words}
 use Rattle.word_steps.proofs.CompleteLaws.{complete-by, settle-place}
-use borrow.Author.Needs.{needs}
 use Rattle.word_steps.proofs.complete.complete_by.Statement.{statement}
 use Rattle.word_steps.proofs.complete.complete_by.Tie as tie
 
