@@ -173,7 +173,7 @@ uint64_t gulberzan_has_failed(const uint64_t queue[GULBERZAN_QUEUE_WORDS], uint6
 /* Yes if retry would not be refused. */
 uint64_t gulberzan_can_retry(const uint64_t queue[GULBERZAN_QUEUE_WORDS], uint64_t answer[GULBERZAN_ANSWER_WORDS]);
 
-/* Yes if nothing is selected, the stage is neither pending nor cancelled, and the target's members are the bindings'. */
+/* Yes if no ticket is selected, the stage is not pending and not cancelled, and the target's members are the bindings'. */
 uint64_t gulberzan_can_finish(const uint64_t queue[GULBERZAN_QUEUE_WORDS], const uint64_t *target, size_t count,
                               uint64_t answer[GULBERZAN_ANSWER_WORDS]);
 
