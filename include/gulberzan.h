@@ -109,7 +109,7 @@ enum gulberzan_row {
 /* Opens a scope in queue, whatever stood there; its result is always 0. */
 uint64_t gulberzan_open_scope(uint64_t queue[GULBERZAN_QUEUE_WORDS], uint64_t domain, uint64_t first_attempt);
 
-/* Opens an iterator with count bindings; more than 16 get 14 and leave the blank queue, a scope of domain 0. */
+/* Opens an iterator with count bindings; more than 16 get 14 and leave the blank queue, whose numbers are all 0. */
 uint64_t gulberzan_open_iterator(uint64_t queue[GULBERZAN_QUEUE_WORDS], uint64_t domain, uint64_t first_attempt,
                                  const uint64_t *bindings, size_t count);
 

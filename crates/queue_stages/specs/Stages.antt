@@ -26,15 +26,15 @@ refusedStage q = staged (Refused broken) q
 abbrev pub afterAdmit : Phase → Bool → Phase
 afterAdmit phase matched = if matched then phaseAfter phase Admit else phase
 
--- R35: admit answers whether the stage is pending afterwards
+-- R35: yes if the stage is pending behind the call
 abbrev pub admittedBy : Queue → Bool → StageAnswer
 admittedBy q matched = staged (yesOrNo (isPending (afterAdmit (q .phase) matched))) (withPhase q (afterAdmit (q .phase) matched))
 
--- R33, R34: matched: a target is given and its set equals the committed set
+-- R33, R34: matched: there is a target, and its members are the committed ones
 unfoldable pub admitted : Queue → Bool → StageAnswer
 admitted q matched = if not (wellFormed q) then refusedStage q else admittedBy q matched
 
--- R36: end answers whether the stage was pending before
+-- R36: yes if the stage was pending when the call came
 unfoldable pub ended : Queue → StageAnswer
 ended q =
     if not (wellFormed q) then refusedStage q else
