@@ -109,7 +109,7 @@ enum gulberzan_row {
 /* Opens a scope in queue, whatever stood there; its result is always 0. */
 uint64_t gulberzan_open_scope(uint64_t queue[GULBERZAN_QUEUE_WORDS], uint64_t domain, uint64_t first_attempt);
 
-/* Opens an iterator with count bindings; more than 16 get 14 and leave the blank queue, a scope of domain 0. */
+/* Opens an iterator with count bindings; more than 16 get 14 and leave the blank queue, whose numbers are all 0. */
 uint64_t gulberzan_open_iterator(uint64_t queue[GULBERZAN_QUEUE_WORDS], uint64_t domain, uint64_t first_attempt,
                                  const uint64_t *bindings, size_t count);
 
@@ -173,7 +173,7 @@ uint64_t gulberzan_has_failed(const uint64_t queue[GULBERZAN_QUEUE_WORDS], uint6
 /* Yes if retry would not be refused. */
 uint64_t gulberzan_can_retry(const uint64_t queue[GULBERZAN_QUEUE_WORDS], uint64_t answer[GULBERZAN_ANSWER_WORDS]);
 
-/* Yes if nothing is selected, the stage is neither pending nor cancelled, and the target's members are the bindings'. */
+/* Yes if no ticket is selected, the stage is not pending and not cancelled, and the target's members are the bindings'. */
 uint64_t gulberzan_can_finish(const uint64_t queue[GULBERZAN_QUEUE_WORDS], const uint64_t *target, size_t count,
                               uint64_t answer[GULBERZAN_ANSWER_WORDS]);
 

@@ -186,7 +186,7 @@ pub fn retry_all(groups: &mut Groups) -> Result<bool, u64> {
     Ok(true)
 }
 
-// Of id 0 only that it is neither pending nor failed; of the others also the queue's own can_finish.
+// R118: neither pending nor failed; of every id but 0 also the queue's own can_finish.
 pub fn can_finish(groups: &Groups, target: &[u64]) -> Result<bool, u64> {
     checked(groups)?;
     let fit = |place: &Place| {

@@ -1,4 +1,4 @@
--- A refusal leaves the whole record, and register, land and complete return the number given
+-- R62: a refusal leaves the whole record, and hands back the undo number that came with the call
 use Prim.Native.Nat.{ℕ, zero, suc}
 use mathlib.Core.Path.{_≡_, refl, ap, _∙_}
 use mathlib.Core.Bool.{false}

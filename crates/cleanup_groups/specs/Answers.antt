@@ -1,4 +1,4 @@
--- What each answer of the groups says: document 01's number of refusal, 0 for done, and the values with it. Answers that are
+-- What each answer of the groups says: its number by R63, 0 for done, and the values with it (R138). Answers that are
 -- the queue's own (register, pop, complete, ..) say what they say there
 use mathlib.Core.List.{[], _∷_}
 use Rattle.queue_record.specs.Refusals.{done}
@@ -8,7 +8,7 @@ use Rattle.group_survey.specs.declared.whole.LenTold.{LenTold}
 use Rattle.group_openings.specs.declared.openings.Added.{Added}
 use Rattle.group_endings.specs.declared.endings.Closed.{Closed}
 
--- an opening: the id
+-- R108: an opening tells the id
 abbrev pub addedSays : Added → Said
 addedSays (Added.Id id) = says done (id ∷ [])
 addedSays (Added.Refused n) = says n []
@@ -18,12 +18,12 @@ abbrev pub closedSays : Closed → Said
 closedSays Closed.Done = says done []
 closedSays (Closed.Refused n) = says n []
 
--- how many groups are live
+-- R120: how many groups are live
 abbrev pub lenSays : LenTold → Said
 lenSays (LenTold.Live n) = says done (n ∷ [])
 lenSays (LenTold.Refused n) = says n []
 
--- get: the queue stands beside the answer
+-- R121: get; the queue stands beside the answer
 abbrev pub gotSays : Got → Said
 gotSays Got.Group = says done []
 gotSays (Got.Refused n) = says n []

@@ -1,4 +1,4 @@
--- The refusals of the groups' calls in document 01's order, each with when it is given: "Groups"
+-- R64: the refusals of the groups' calls in their order, each with when it is given
 use Prim.Native.Nat.{ℕ}
 use mathlib.Core.Bool.{Bool, false, not}
 use mathlib.Core.List.{List, [], _∷_, _++_}
@@ -16,11 +16,11 @@ use Rattle.group_check.specs.WellFormed.{lastBase, ids, wellGrouped}
 use Rattle.group_record.specs.declared.record.Groups.{Groups}
 use Rattle.group_asking.specs.declared.questions.Question.the-variants.{Free, Holds, Undrained}
 
--- a new record 19
+-- R99: a new record gets 19 or nothing
 abbrev pub newOrder : ℕ → List Ground
 newOrder base = due noId (ltb lastBase base) ∷ []
 
--- open checks 1, 12, 14, 11, 19
+-- opening a group: 1, 12, 14, 11, 19
 abbrev pub openOrder : Groups → List ℕ → List Ground
 openOrder g bindings =
     due broken (not (wellGrouped g)) ∷
@@ -30,7 +30,7 @@ openOrder g bindings =
     due noId (leb ids (g .next)) ∷
     []
 
--- calls by id check 1, 10
+-- by id: 1, 10
 abbrev pub idOrder : Groups → ℕ → List Ground
 idOrder g id =
     due broken (not (wellGrouped g)) ∷
@@ -42,24 +42,24 @@ abbrev pub orderAt : Groups → (Queue → List Ground) → Found → List Groun
 orderAt g order Missing = []
 orderAt g order (At i) = order (queueAt g i)
 
--- other calls check 1, 10, then as the queue
+-- R64: by id 1 and 10, and then whatever the queue's call checks
 abbrev pub stepOrder : Groups → ℕ → (Queue → List Ground) → List Ground
 stepOrder g id order = idOrder g id ++ orderAt g order (firstYes g (Holds id) [])
 
--- calls on the whole record check 1 alone
+-- R123: of the whole record 1 alone
 abbrev pub recordOrder : Groups → List Ground
 recordOrder g = due broken (not (wellGrouped g)) ∷ []
 
--- the group that was found is not drained
+-- R109: the group that was found is not drained
 abbrev pub undrainedAt : Groups → Found → Bool
 undrainedAt g Missing = false
 undrainedAt g (At i) = not (drained (queueAt g i))
 
--- close checks 1, 10, 13
+-- closing: 1, 10, 13
 abbrev pub closeOrder : Groups → ℕ → List Ground
 closeOrder g id = idOrder g id ++ (due notDrained (undrainedAt g (firstYes g (Holds id) [])) ∷ [])
 
--- seal checks 1, 12, 13
+-- sealing: 1, 12, 13
 abbrev pub sealOrder : Groups → List Ground
 sealOrder g =
     due broken (not (wellGrouped g)) ∷

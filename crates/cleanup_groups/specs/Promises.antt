@@ -23,7 +23,7 @@ LiveAt g i = placeAt g i .live ≡ true
 abbrev pub idAt : Groups → ℕ → ℕ
 idAt g i = placeAt g i .id
 
--- document 01's well-formed group record, read place by place (sound-means, means-sound: it is the check's answer)
+-- R101: a well-formed group record, read place by place (sound-means, means-sound: it is the check's answer)
 pub record Sound (g : Groups) : Type 0 where
   pub base : g .base ≤ lastBase
   pub next : g .next ≤ ids
@@ -46,7 +46,7 @@ SomeLive g asks = (i : ℕ) × (i < 16) × LiveAt g i × (asks (idAt g i) (queue
 abbrev pub EveryLive : Groups → (ℕ → Queue → Bool) → Type 0
 EveryLive g asks = (i : ℕ) → i < 16 → LiveAt g i → asks (idAt g i) (queueAt g i) ≡ true
 
--- nothing is left in a queue: no undo in any slot, selected, out or failed, and no pending stage
+-- R109, in parts: no undo in any slot, none selected, out or failed, and no pending stage
 pub record DrainedQueue (q : Queue) : Type 0 where
   pub selection : q .selection ≡ Free
   pub slots : (k : ℕ) → slot q k ≡ 0
@@ -56,7 +56,7 @@ pub record DrainedQueue (q : Queue) : Type 0 where
   pub settled : isSettled (q .phase) ≡ true
   pub pending : isPending (q .phase) ≡ false
 
--- the record h after g, in which the queue q was opened under the id n
+-- R107, R108: the record h after g, in which the queue q was opened under the id n
 pub record AddedAs (g : Groups) (n : ℕ) (q : Queue) (h : Groups) : Type 0 where
   pub id : n ≡ g .next
   pub next : h .next ≡ g .next + 1
@@ -69,7 +69,7 @@ pub record AddedAs (g : Groups) (n : ℕ) (q : Queue) (h : Groups) : Type 0 wher
   pub named : idAt h place ≡ n
   pub queue : queueAt h place ≡ q
 
--- the record h is g with other queues: what groups there are stays
+-- R114: the record h is g with other queues; what groups there are stays
 pub record Frame (g h : Groups) : Type 0 where
   pub base : h .base ≡ g .base
   pub next : h .next ≡ g .next
@@ -81,6 +81,6 @@ pub record Frame (g h : Groups) : Type 0 where
 abbrev pub AllSized : Groups → Type 0
 AllSized g = (i : ℕ) → i < 16 → Sized (queueAt g i)
 
--- where the answer is a refusal its number is not 0: 0 is said of what is done alone
+-- R63: where the answer is a refusal its number is not 0, which is said of what is done alone
 abbrev pub Numbered : {A : Type 0} → (ℕ → A) → A → Type 0
 Numbered refused answer = (n : ℕ) → answer ≡ refused n → n ≡ done → ⊥

@@ -1,4 +1,4 @@
--- When pop hands out work, and what: "Pop hands out work exactly when something may be handed out"
+-- R41 to R47: when pop hands out work, and what
 use Prim.Native.Nat.{ℕ, _+_}
 use mathlib.Core.Path.{_≡_, refl, sym, ap, _∙_}
 use mathlib.Core.Logic.{inl, inr}

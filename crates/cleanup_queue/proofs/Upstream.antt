@@ -484,7 +484,7 @@ module _ (q : Queue) where
   unfolding cancelledBy
   cancel-moves w = ap (λ (r : CancelAnswer). r .queue .phase) (miss _ (ap not w))
 
-  -- Admit answers whether the stage is pending afterwards (Q237).
+  -- R35: the answer is of the stage behind the call (Q237).
   pub admit-answers : (matched : Bool) → admitted q matched .answer ≡ asked q (isPending (admitted q matched .queue .phase))
   unfolding admitted
   admit-answers matched =

@@ -1,4 +1,4 @@
--- What each answer says: document 01's number of refusal, 0 for done, and the values with it
+-- R138: what each answer says: its number by R63, 0 for done, and the values with it
 use Prim.Native.Nat.{ℕ}
 use mathlib.Core.List.{List, [], _∷_}
 use Rattle.queue_record.specs.Refusals.{done}
@@ -18,28 +18,28 @@ pub record Said : Type 0 where
 abbrev pub says : ℕ → List ℕ → Said
 says n vs = record { number = n; values = vs }
 
--- an opening has no value
+-- R26: an opening has no value
 abbrev pub openedSays : Opened → Said
 openedSays Opened.Open = says done []
 openedSays (Opened.Refused n) = says n []
 
--- register and land: the token; a refusal returns the number given
+-- R38, R62: the token; a refusal returns the number given
 abbrev pub registeredSays : Registered → Said
 registeredSays (Registered.Token token) = says done (token ∷ [])
 registeredSays (Registered.Refused n given) = says n (given ∷ [])
 
--- pop: domain, token, attempt and undo number of the work; Nothing has no value
+-- R47: domain, token, attempt and undo number of the work; Nothing has no value
 abbrev pub poppedSays : Popped → Said
 poppedSays (Popped.Work t number) = says done (t .domain ∷ t .token ∷ t .attempt ∷ number ∷ [])
 poppedSays Popped.Nothing = says done []
 poppedSays (Popped.Refused n) = says n []
 
--- complete: a refusal returns the kept number given
+-- R62: a refusal of complete returns the kept number given
 abbrev pub completedSays : Completed → Said
 completedSays Completed.Settled = says done []
 completedSays (Completed.Refused n kept) = says n (kept ∷ [])
 
--- retry: domain, token and attempt of the renewed ticket
+-- R55: domain, token and attempt of the renewed ticket
 abbrev pub retriedSays : Retried → Said
 retriedSays (Retried.Again t) = says done (t .domain ∷ t .token ∷ t .attempt ∷ [])
 retriedSays (Retried.Refused n) = says n []

@@ -1,4 +1,4 @@
--- The marked bench cases W1 to W12 of document 01: what the definitions say beside what the paper says
+-- The marked cases W1 to W12 of docs/RULES.md: what the definitions say, beside what was worked out by hand
 use Prim.Native.Nat.{ℕ, zero, suc}
 use mathlib.Core.List.{List, [], _∷_}
 use Rattle.queue_record.specs.Openings.{scopeOf, iteratorOpened}
@@ -10,7 +10,7 @@ use Rattle.queue_questions.specs.Questions.{matches}
 use Rattle.queue_stages.specs.Stages.{admitted}
 use Rattle.cleanup_queue.specs.Answers.{Said, says, openedSays, registeredSays, poppedSays, completedSays, retriedSays, toldSays}
 
--- ---- the queues of the cases: a scope of domain 0, first attempt 0, unless said
+-- ---- the queues of the cases: a scope whose domain and first attempt are 0, if nothing else is said
 abbrev ticket : ℕ → ℕ → Ticket
 ticket token attempt = record { domain = 0; token = token; attempt = attempt }
 
@@ -32,14 +32,14 @@ failed = completed out (ticket 1 0) 1 72 .queue
 abbrev pub outAgain : Queue
 outAgain = popped (retried failed .queue) .queue
 
--- W8's queue: Done, 0; then token 0 goes out
+-- W8's queue: Done with 0; then token 0 goes out
 abbrev pub last : Queue
 last = completed outAgain (ticket 1 1) 0 0 .queue
 
 abbrev pub lastOut : Queue
 lastOut = popped last .queue
 
--- W9's queue: Failed, 0
+-- W9's queue: Failed with 0
 abbrev pub spent : Queue
 spent = completed lastOut (ticket 0 2) 1 0 .queue
 

@@ -1,4 +1,4 @@
--- What each call says: its refusals in document 01's order, each with when it is given ("Numbers of refusal", table and last line), and its values
+-- R64: what each call says: its refusals in their order, each with when it is given, and its values
 use Prim.Native.Nat.{ℕ}
 use mathlib.Core.Path.{_≡_}
 use mathlib.Core.Bool.{Bool, true, false, not, _&&_}
@@ -46,11 +46,11 @@ firstSaid (d ∷ ds) back own = if d .case then says (d .number) back else first
 abbrev pub RefusedAs : Queue → List ℕ → Said → Queue → Type 0
 RefusedAs q back s p = (s .number ≡ 0 → ⊥) → (s .values ≡ back) × (p ≡ q)
 
--- an opening 14, of the bindings that its kind keeps: a scope keeps none
+-- R25: an opening, 14, of the bindings that its kind keeps: a scope keeps none
 abbrev pub openingOrder : Opening → List Ground
 openingOrder o = due tooManyBindings (ltb 16 (length (keptBindings (o .heading .kind) (o .bindings)))) ∷ []
 
--- register 1, 2, 3
+-- register: 1, 2, 3
 abbrev pub registerOrder : Queue → ℕ → List Ground
 registerOrder q number =
     due broken (not (wellFormed q)) ∷
@@ -58,7 +58,7 @@ registerOrder q number =
     due noSlot (leb 64 (q .count)) ∷
     []
 
--- land 1, 2, 4, 3
+-- land: 1, 2, 4, 3
 abbrev pub landOrder : Queue → ℕ → List Ground
 landOrder q number =
     due broken (not (wellFormed q)) ∷
@@ -67,14 +67,14 @@ landOrder q number =
     due noSlot (leb 64 (q .count)) ∷
     []
 
--- the token that pop would make a fresh ticket for: none while something is issued, failed or selected
+-- R43: the token that pop would make a fresh ticket for; none while something is issued, failed or selected
 abbrev pub freshToken : Bool → Bool → Selection → List ℕ → Found
 freshToken true failed s ks = Missing
 freshToken false true s ks = Missing
 freshToken false false (Of t) ks = Missing
 freshToken false false Free ks = newest ks
 
--- the token that pop chooses: the ready one, or that of the fresh ticket
+-- R42: the token that pop chooses: the ready one, or that of the fresh ticket
 abbrev pub chosenToken : Bool → Bool → Selection → List ℕ → Found
 chosenToken true failed s ks = Missing
 chosenToken false true s ks = Missing
@@ -85,7 +85,7 @@ abbrev pub isHollow : Queue → Found → Bool
 isHollow q Missing = false
 isHollow q (At k) = eqb (slot q k) 0
 
--- pop 1, 9, 5
+-- pop: 1, 9, 5
 abbrev pub popOrder : Queue → List Ground
 popOrder q =
     due broken (not (wellFormed q)) ∷
@@ -93,19 +93,19 @@ popOrder q =
     due noAttempt (isThere (freshToken (q .issued) (q .failed) (q .selection) (waiting q)) && leb noMore (q .next)) ∷
     []
 
--- what pop hands out, as values: the fresh ticket for the token found, with the number in its slot
+-- R45: what pop hands out, as values: the fresh ticket for the token found, with the number in its slot
 abbrev pub freshValues : Queue → Found → List ℕ
 freshValues q Missing = []
 freshValues q (At k) = q .domain ∷ k ∷ q .next ∷ slot q k ∷ []
 
--- the ready ticket as it is, or a fresh one; nothing while something is issued or failed
+-- R41, R46: the ready ticket as it is, or a fresh one; nothing while something is issued or failed
 abbrev pub workValues : Queue → Bool → Bool → Selection → List ℕ
 workValues q true failed s = []
 workValues q false true s = []
 workValues q false false (Of t) = t .domain ∷ t .token ∷ t .attempt ∷ slot q (t .token) ∷ []
 workValues q false false Free = freshValues q (newest (waiting q))
 
--- complete 1, 15, 6, 7
+-- complete: 1, 15, 6, 7
 abbrev pub completeOrder : Queue → Ticket → ℕ → ℕ → List Ground
 completeOrder q t outcome kept =
     due broken (not (wellFormed q)) ∷
@@ -114,19 +114,19 @@ completeOrder q t outcome kept =
     due keptOnDone (keepsOnDone outcome kept) ∷
     []
 
--- retry 1, 8
+-- retry: 1, 8
 abbrev pub retryOrder : Queue → List Ground
 retryOrder q =
     due broken (not (wellFormed q)) ∷
     due noRetry (not (retryAllowed q (q .selection))) ∷
     []
 
--- the renewed ticket, as values
+-- R55: the renewed ticket, as values
 abbrev pub renewedValues : Queue → Selection → List ℕ
 renewedValues q Free = []
 renewedValues q (Of t) = t .domain ∷ t .token ∷ q .next ∷ []
 
--- yes-or-no calls refuse only with 1
+-- R65: 1 alone
 abbrev pub brokenOnly : Queue → List Ground
 brokenOnly q = due broken (not (wellFormed q)) ∷ []
 

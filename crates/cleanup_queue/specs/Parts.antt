@@ -1,4 +1,4 @@
--- What becomes of each part of a record, in an opening and in each call: together the laws name every part for every call
+-- R59: what becomes of each part of a record, in an opening and in each call; together the laws name every part for every call
 use Prim.Native.Nat.{ℕ, _+_}
 use mathlib.Core.Path.{_≡_}
 use mathlib.Core.Bool.{false}
@@ -21,7 +21,7 @@ use Rattle.queue_steps.specs.declared.attempts.Popped.the-variants.{Work}
 use Rattle.queue_steps.specs.declared.attempts.PopAnswer.{PopAnswer}
 
 -- ---- openings, and what they give for good
--- no token, nothing out, nothing selected, nothing waiting, and the stage not pending
+-- R23: no token, nothing out, nothing selected, nothing waiting, and the stage not pending
 abbrev pub Fresh : Queue → Type 0
 Fresh q = (q .count ≡ 0) × (q .issued ≡ false) × (q .selection ≡ Free) × (waiting q ≡ []) × (isPending (q .phase) ≡ false)
 
@@ -53,25 +53,25 @@ SameOpening q p = (p .kind ≡ q .kind) × (p .domain ≡ q .domain) × (p .bind
 abbrev pub LeavesSelected : Queue → Queue → Type 0
 LeavesSelected q p = (p .selection ≡ q .selection) × (p .failed ≡ q .failed) × (p .issued ≡ q .issued) × (p .next ≡ q .next)
 
--- the token is the number of slots in use, these get the number behind them, and no other place is stored to
+-- R38: the token is the number of slots in use, these get the number behind them, and no other place is stored to
 abbrev pub Pushes : Queue → ℕ → RegisterAnswer → Type 0
 Pushes q n r = (token : ℕ) → r .answer ≡ Token token → (token ≡ q .count) × (take (r .queue .count) (r .queue .slots) ≡ take (q .count) (q .slots) ++ (n ∷ [])) × (r .queue .count ≡ q .count + 1) × (r .queue .slots ≡ set (q .slots) (q .count) n)
 
--- the token waits behind the others
+-- R11: the token waits behind the others
 abbrev pub Appends : Queue → RegisterAnswer → Type 0
 Appends q r = (token : ℕ) → r .answer ≡ Token token → waiting (r .queue) ≡ waiting q ++ (token ∷ [])
 
 -- ---- pop
--- the token of a fresh ticket was the last of the waiting ones, and waits no more
+-- R43: the token of a fresh ticket was the last of the waiting ones, and waits no more
 abbrev pub Drops : Queue → PopAnswer → Type 0
 Drops q r = (t : Ticket) (number : ℕ) → r .answer ≡ Work t number → q .selection ≡ Free → waiting q ≡ waiting (r .queue) ++ (t .token ∷ [])
 
--- next rises by 1 for a fresh ticket, and stays for a ready one
+-- R45, R46: next rises by 1 for a fresh ticket, and stays for a ready one
 abbrev pub TakesNext : Queue → Queue → Type 0
 TakesNext q p = (q .selection ≡ Free → p .next ≡ q .next + 1) × ((s : Ticket) → q .selection ≡ Of s → p .next ≡ q .next)
 
 -- ---- complete of a ticket, by its outcome and kept number
--- not issued, the slot with the kept number, failed exactly if Failed, selected exactly then
+-- R50 to R52: not issued, the slot with the kept number, failed exactly if Failed, selected exactly then
 abbrev pub TakesBack : Queue → Ticket → ℕ → ℕ → Queue → Type 0
 TakesBack q t outcome kept p = (p .issued ≡ false) × (p .slots ≡ set (q .slots) (t .token) kept) × (p .count ≡ q .count) × (p .failed ≡ eqb outcome 1) × ((outcome ≡ 1 → p .selection ≡ Of t) × (outcome ≡ 0 → p .selection ≡ Free))
 

@@ -1,4 +1,4 @@
--- When pop may hand out work and what it hands out, and when can_finish says yes
+-- When pop may hand out work and what it hands out (R41 to R47), and when can_finish says yes (R56)
 use Prim.Native.Nat.{ℕ}
 use mathlib.Core.Path.{_≡_}
 use mathlib.Core.Logic.{_⊎_}

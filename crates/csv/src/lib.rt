@@ -1,4 +1,4 @@
-// The text of document 01, "Driver and text": decimals, and lines of five of them, on lent bytes.
+// R125, R126: decimals, and lines of five of them, on lent bytes.
 mod line;
 mod number;
 

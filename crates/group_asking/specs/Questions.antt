@@ -20,23 +20,23 @@ isYes Yes = true
 isYes No = false
 isYes (Refused n) = false
 
--- "each live queue is well formed with its domain", "domain is base plus id"
+-- R98, R104: of a live place: its queue is well formed, and its domain is base and id added
 abbrev pub belongsTo : ℕ → ℕ → Queue → Bool
 belongsTo base id q = eqb (q .domain) (base + id) && wellFormed q
 
--- not what "each free place holds": "id 0 and the blank queue"
+-- R105, denied: a free place with another id than 0, or another queue than the blank one
 abbrev pub littered : ℕ → Queue → Bool
 littered id q = not (eqb id 0 && isBlank q)
 
--- upstream's can_retry_all: no group that has failed may be without a retry
+-- R116, denied of one group: it has failed and can't be retried; as in upstream's can_retry_all
 abbrev pub stuck : Queue → Bool
 stuck q = q .failed && not (isYes (canRetryTold q))
 
--- upstream's can_finish: neither pending nor failed; "of id 0 can_finish asks only that", of the others also the queue's can_finish
+-- R118: neither pending nor failed; the queue's own can_finish is asked of every id but 0
 abbrev pub finishes : ℕ → Queue → List ℕ → Bool
 finishes id q target = not (isPending (q .phase)) && (not (q .failed) && (eqb id 0 || isYes (canFinishTold q target)))
 
--- "drained (empty, settled, not pending)"
+-- R109: nothing in it, settled and not pending
 unfoldable pub drained : Queue → Bool
 drained q = isYes (isEmptyTold q) && (isSettled (q .phase) && not (isPending (q .phase)))
 

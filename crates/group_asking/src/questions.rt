@@ -74,7 +74,7 @@ fn is_stuck(q: Queue) -> bool
     !is_yes(can_retry(q))
 }
 
-// Of id 0 it asks only that it is neither pending nor failed.
+// R118: id 0 is asked for no more than that it neither runs a step nor has failed.
 fn is_finishing(id: u64, q: Queue, target: &[u64]) -> bool
     ensures { λ r. ⌜ r ≡ finishes id q (now (target .entry)) ⌝ }
 {
@@ -91,7 +91,7 @@ fn is_finishing(id: u64, q: Queue, target: &[u64]) -> bool
     is_yes(can_finish(q, target))
 }
 
-// A settled stage is never pending: the last test is there since the paper names it, and changes no answer.
+// R109: a settled stage is never pending, so the last test changes no answer; it is there since the rule names it.
 pub fn is_drained(q: Queue) -> bool
     ensures { λ r. ⌜ r ≡ drained q ⌝ }
 {

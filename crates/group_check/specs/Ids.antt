@@ -1,4 +1,4 @@
--- A group by its id: document 01, "Groups", "other calls check 1, 10"
+-- A group by its id: the first two checks of R64
 use Prim.Native.Nat.{ℕ}
 use mathlib.Core.Bool.{not}
 use mathlib.Core.List.{[]}
@@ -17,7 +17,7 @@ use Rattle.group_check.specs.declared.ids.Got.{Got}
 use Rattle.group_check.specs.declared.ids.Got.the-variants.{Group}
 use Rattle.group_check.specs.declared.ids.GetAnswer.{GetAnswer}
 
--- where the id is live, or 10
+-- R123: where the id is live, or 10
 abbrev pub spotAt : Found → Spot
 spotAt Missing = Spot.Refused noGroup
 spotAt (At i) = Spot.At i
@@ -26,7 +26,7 @@ spotAt (At i) = Spot.At i
 unfoldable pub spotOf : Groups → ℕ → Spot
 spotOf g id = if not (wellGrouped g) then Spot.Refused broken else spotAt (firstYes g (Holds id) [])
 
--- the queue at that place; beside a refusal the blank queue, as a refused opening gives it
+-- R121: the queue at that place; beside a refusal the blank queue
 abbrev pub gotAt : Groups → Spot → GetAnswer
 gotAt g (Spot.Refused n) = record { answer = Got.Refused n; queue = blank }
 gotAt g (Spot.At i) = record { answer = Group; queue = queueAt g i }

@@ -1,4 +1,4 @@
--- When a group record is well formed: document 01, "Groups", "The record is well formed if ..", a named clause each
+-- R101: when a group record is well formed, a named clause each
 use Prim.Native.Nat.{ℕ}
 use mathlib.Core.Bool.{Bool, true, not, _&&_}
 use mathlib.Core.List.{List, [], _∷_}
@@ -12,19 +12,19 @@ use Rattle.group_record.specs.declared.record.Place.{Place}
 use Rattle.group_record.specs.declared.record.Groups.{Groups}
 use Rattle.group_asking.specs.declared.questions.Question.the-variants.{Littered, Live, Holds, PastNext, Foreign}
 
--- the largest base to which the id 65,535 can be added, with one number to spare
+-- R99: the largest base to which the id 65,535 can be added, with one number to spare
 abbrev pub lastBase : ℕ
 lastBase = 18446744073709486079
 
--- ids are 0 to 65,535
+-- R97: how many ids there are
 abbrev pub ids : ℕ
 ids = 65536
 
--- the base is not above 18446744073709486079
+-- R102: the base has room for every id
 abbrev pub baseFits : ℕ → Bool
 baseFits base = leb base lastBase
 
--- next is at most 65,536
+-- R102: no id was given past the last
 abbrev pub nextFits : ℕ → Bool
 nextFits next = leb next ids
 
@@ -32,24 +32,24 @@ nextFits next = leb next ids
 abbrev pub clashes : Place → List Place → Bool
 clashes p ps = p .live && isThere (firstFrom (asksOf (Holds (p .id)) []) 0 ps)
 
--- live ids are distinct
+-- R103: no two live places have one id
 abbrev pub distinctIds : List Place → Bool
 distinctIds [] = true
 distinctIds (p ∷ ps) = not (clashes p ps) && distinctIds ps
 
--- and below next
+-- R103: and each of these ids was given
 abbrev pub idsBelow : Groups → Bool
 idsBelow g = not (someYes g (PastNext (g .next)) [])
 
--- each live queue is well formed with its domain
+-- R104: what lives has a sound queue of its own domain
 abbrev pub queuesFit : Groups → Bool
 queuesFit g = not (someYes g (Foreign (g .base)) [])
 
--- each free place holds id 0 and the blank queue
+-- R105: what is free is as nothing ever stood there
 abbrev pub freeFits : Groups → Bool
 freeFits g = not (someYes g Littered [])
 
--- a sealed record has none live
+-- R106: sealing left none live
 abbrev pub sealedFits : Groups → Bool
 sealedFits g = implies (g .sealed) (not (someYes g Live []))
 

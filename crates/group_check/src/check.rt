@@ -1,4 +1,4 @@
-// Whether a group record is well formed: one test for each clause.
+// R101: whether a group record is well formed, one test for each clause.
 use group_asking::Question;
 use group_asking::some;
 use group_asking::some_from;
@@ -8,7 +8,7 @@ ghost use mathlib.Core.Path.{_≡_};
 ghost use lib.ListN.{drop};
 ghost use Rattle.group_check.specs.WellFormed.{clashes, distinctIds, sealedFits, wellGrouped};
 
-// The largest base to which every id, and the id past the last one, can be added.
+// R99: the largest base to which every id, and the id past the last one, can be added.
 pub const LAST_BASE: u64 = 18446744073709486079;
 
 // The id past the last one.

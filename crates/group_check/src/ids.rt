@@ -1,4 +1,4 @@
-// A group by its id: where it is, and its queue.
+// A group by its id: where it is, and its queue (R121).
 use crate::check::well_grouped;
 use group_asking::Question;
 use group_asking::first_where;
@@ -29,7 +29,7 @@ pub fn lowest(g: Groups, question: Question) -> Found
     first_where(g, 0, question, &none[..0])
 }
 
-// Every call by id checks 1, then 10.
+// R123: every call by id checks 1, then 10.
 pub fn look_up(g: Groups, id: u64) -> Spot
     ensures { λ r. ⌜ r ≡ spotOf g id ⌝ }
 {

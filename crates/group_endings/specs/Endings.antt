@@ -1,4 +1,4 @@
--- Closing and sealing: document 01, "Groups", "closing a group needs it drained", "sealing needs all live ones drained"
+-- Closing (R110, R111) and sealing (R112)
 use Prim.Native.Nat.{ℕ}
 use mathlib.Core.Bool.{not}
 use mathlib.Core.List.{[]}
@@ -21,14 +21,14 @@ use Rattle.group_endings.specs.declared.endings.CloseAnswer.{CloseAnswer
 abbrev pub refusedClose : Groups → ℕ → CloseAnswer
 refusedClose g refusal = record { answer = Closed.Refused refusal; groups = g }
 
--- a freed place is used again: it is as it was before any opening
+-- R111: the place is again as it was before any opening
 abbrev pub removedAt : Groups → Spot → CloseAnswer
 removedAt g (Spot.Refused refusal) = refusedClose g refusal
 removedAt g (Spot.At i) =
     if not (drained (queueAt g i)) then refusedClose g notDrained else
     record { answer = Done; groups = withPlace g i freePlace }
 
--- close checks 1, 10, 13
+-- R110: closing: 1, 10, 13
 unfoldable pub removed : Groups → ℕ → CloseAnswer
 removed g id = removedAt g (spotOf g id)
 
@@ -38,6 +38,6 @@ sealedBy g Open =
     if someYes g Undrained [] then refusedClose g notDrained else
     record { answer = Done; groups = sealing g }
 
--- seal checks 1, 12, 13, then drops all
+-- R112: sealing: 1, 12, 13; then all places are free
 unfoldable pub sealedIn : Groups → CloseAnswer
 sealedIn g = sealedBy g (unsealed g)

@@ -1,4 +1,4 @@
-// Groups closed, and the record sealed.
+// Groups closed (R110), and the record sealed (R112).
 use group_asking::Question;
 use group_asking::is_drained;
 use group_asking::some;

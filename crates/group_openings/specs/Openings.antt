@@ -1,4 +1,4 @@
--- A new record and the openings of groups: document 01, "Groups", first, second, fourth and fifth sentence
+-- A new record (R99, R100), and the openings of groups (R107, R108)
 use Prim.Native.Nat.{ℕ, _+_}
 use mathlib.Core.Bool.{not}
 use mathlib.Core.List.{List, []}
@@ -23,7 +23,7 @@ use Rattle.group_openings.specs.declared.openings.Added.{Added}
 use Rattle.group_openings.specs.declared.openings.Added.the-variants.{Id}
 use Rattle.group_openings.specs.declared.openings.AddAnswer.{AddAnswer}
 
--- a base above 18446744073709486079 gets 19 and an empty group record of base 0; any other, as upstream, the root: a scope
+-- R99: past the largest base 19, beside an empty record whose base is 0; R100: with any other, as upstream, the root: a scope
 -- open as id 0, whose domain is the base
 unfoldable pub newOf : ℕ → NewAnswer
 newOf base =
@@ -37,19 +37,19 @@ unsealed g =
     if g .sealed then Opened.Refused sealed else
     Open
 
--- 11, then 19: sixteen live, or ids used up
+-- R63: 11 with sixteen live, then 19 with no id left
 abbrev pub roomAt : Groups → Found → Spot
 roomAt g Missing = Spot.Refused groupsFull
 roomAt g (At i) = if leb ids (g .next) then Spot.Refused noId else Spot.At i
 
--- the lowest free place
+-- R107: the lowest free place
 abbrev pub roomOf : Groups → Spot
 roomOf g = roomAt g (firstYes g Free [])
 
 abbrev pub refusedAdd : Groups → ℕ → AddAnswer
 refusedAdd g refusal = record { answer = Added.Refused refusal; groups = g }
 
--- the id is next, in opening order
+-- R97: the id is next
 abbrev pub addedAt : Groups → Queue → Spot → AddAnswer
 addedAt g q (Spot.Refused refusal) = refusedAdd g refusal
 addedAt g q (Spot.At i) = record { answer = Id (g .next); groups = withOpened g i q }
@@ -57,7 +57,7 @@ addedAt g q (Spot.At i) = record { answer = Id (g .next); groups = withOpened g 
 abbrev pub added : Groups → Queue → AddAnswer
 added g q = addedAt g q (roomOf g)
 
--- domain is base plus id
+-- R98: the base and the id added
 abbrev pub nextDomain : Groups → ℕ
 nextDomain g = g .base + g .next
 
@@ -71,10 +71,10 @@ abbrev pub addedOpening : Groups → OpenAnswer → Opened → AddAnswer
 addedOpening g x (Opened.Refused refusal) = refusedAdd g refusal
 addedOpening g x Open = addedQueue g (x .queue) (x .answer)
 
--- open of a scope: 1, 12, 11, 19; open starts each queue with first attempt 0
+-- R107: opening a scope: 1, 12, 11, 19; the first attempt is 0
 unfoldable pub addedScope : Groups → AddAnswer
 addedScope g = addedOpening g (scopeOpened (nextDomain g) 0) (unsealed g)
 
--- open of an iterator: 1, 12, 14, 11, 19
+-- opening an iterator: 1, 12, 14, 11, 19
 unfoldable pub addedIterator : Groups → List ℕ → AddAnswer
 addedIterator g bindings = addedOpening g (iteratorOpened (nextDomain g) 0 bindings) (unsealed g)

@@ -1,4 +1,4 @@
-// A new record, and groups opened in it.
+// A new record (R99, R100), and groups opened in it (R107).
 use group_asking::Question;
 use group_check::IDS;
 use group_check::LAST_BASE;

@@ -1,4 +1,4 @@
--- The yes-or-no calls of a group and its domain: document 01, "Groups", "other calls check 1, 10, then as the queue"
+-- R113: the yes-or-no calls of a group, and its domain
 use Prim.Native.Nat.{ℕ}
 use mathlib.Core.List.{List}
 use Rattle.queue_questions.specs.Questions.{isEmptyTold, isIssuedTold, isPendingTold, isSettledTold, isCancelledTold, hasFailedTold, canRetryTold, canFinishTold, domainTold}
@@ -51,6 +51,6 @@ negation Yes = No
 negation No = Yes
 negation (Told.Refused refusal) = Told.Refused refusal
 
--- upstream's accepts_acquisition: the stage is not cancelled
+-- R122: upstream's accepts_acquisition, the stage is not cancelled
 abbrev pub acceptsIn : Groups → ℕ → Told
 acceptsIn g id = negation (isCancelledIn g id)

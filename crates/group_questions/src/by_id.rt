@@ -1,4 +1,4 @@
-// The yes-or-no calls of a group, by its id. They are named after the queue's, since the record has calls of those names too.
+// R113: the yes-or-no calls of a group, by its id. They are named after the queue's, since the record has calls of those names too.
 use group_check::Got;
 use group_check::get;
 use group_record::Groups;
@@ -117,7 +117,7 @@ fn negate(told: Told) -> Told
     }
 }
 
-// Whether the stage is not cancelled: land is not asked here, and Stopping still takes one.
+// R122: whether the stage is not cancelled: land is not asked here, and Stopping still takes one.
 pub fn accepts_acquisition(g: Groups, id: u64) -> Told
     ensures { λ r. ⌜ r ≡ acceptsIn g id ⌝ }
 {

@@ -21,7 +21,7 @@ placeAt g i = getD (g .places) i nowhere
 abbrev pub queueAt : Groups → ℕ → Queue
 queueAt g i = placeAt g i .queue
 
--- a free place holds id 0 and the blank queue
+-- R105: the id is 0 and the queue blank
 abbrev pub freePlace : Place
 freePlace = record { id = 0; live = false; queue = blank }
 
@@ -46,14 +46,14 @@ withPlaces g ps = record { base = g .base; next = g .next; sealed = g .sealed; p
 abbrev pub withNextId : Groups → ℕ → Groups
 withNextId g n = record { base = g .base; next = n; sealed = g .sealed; places = g .places }
 
--- a group more in the place i: its id is next, which rises by 1, so that no id comes again
+-- R97: a group more in the place i: its id is next, which rises by 1, so that no id comes again
 abbrev pub withOpened : Groups → ℕ → Queue → Groups
 withOpened g i q = withNextId (withPlace g i (livePlace (g .next) q)) (g .next + 1)
 
--- an empty group record
+-- R99: an empty group record
 unfoldable pub emptyOf : ℕ → Groups
 emptyOf base = record { base = base; next = 0; sealed = false; places = replicate 16 freePlace }
 
--- sealed, with none live
+-- R112: sealed, with none live
 unfoldable pub sealing : Groups → Groups
 sealing g = record { base = g .base; next = g .next; sealed = true; places = replicate 16 freePlace }

@@ -1,4 +1,4 @@
-// The parts of a group record. Any value of these types is a legal argument of every call.
+// R96: the parts of a group record. Any value of these types is a legal argument of every call.
 use queue_record::Queue;
 
 pub struct Place {

@@ -1,4 +1,4 @@
--- Retry of every failed group: upstream's retry_all, which document 01 leaves to the visible body
+-- R117: retry of every failed group, as upstream's visible body does it
 use mathlib.Core.Bool.{not, _&&_}
 use mathlib.Core.List.{List, [], _∷_}
 use Rattle.choice.specs.Choice.{if_then_else_}

@@ -1,4 +1,4 @@
-// Retry of every group that has failed.
+// R117: retry of every group that has failed.
 use group_check::well_grouped;
 use group_record::Groups;
 use group_record::Place;

@@ -1,4 +1,4 @@
--- Admit, end and cancel of a group: document 01, "Groups", "other calls check 1, 10, then as the queue; other groups stay"
+-- R113, R114: admit, end and cancel of a group
 use Prim.Native.Nat.{ℕ}
 use mathlib.Core.Bool.{false}
 use mathlib.Core.List.{List}
@@ -50,7 +50,7 @@ endedIn g id = endedAt g (spotOf g id)
 abbrev pub stoppedAt : Groups → ℕ → CancelAnswer → GroupCancelAnswer
 stoppedAt g i step = record { answer = step .answer; groups = withQueue g i (step .queue) }
 
--- an id that is not live was passed over upstream; now it gets 10
+-- R123: an id that is not live was passed over upstream; here it gets 10
 abbrev pub cancelledAt : Groups → Spot → GroupCancelAnswer
 cancelledAt g (Spot.Refused refusal) = record { answer = Cancelled.Refused refusal; groups = g }
 cancelledAt g (Spot.At i) = stoppedAt g i (cancelledBy (queueAt g i))

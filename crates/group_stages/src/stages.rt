@@ -1,4 +1,4 @@
-// Admit, end and cancel of a group, by its id.
+// R113: admit, end and cancel of a group, by its id.
 use group_check::Spot;
 use group_check::look_up;
 use group_check::queue_at;

@@ -1,4 +1,4 @@
--- Pop, complete and retry of a group: document 01, "Groups", "other calls check 1, 10, then as the queue; other groups stay"
+-- R113, R114: pop, complete and retry of a group
 use Prim.Native.Nat.{ℕ}
 use Rattle.queue_record.specs.declared.record.Ticket.{Ticket}
 use Rattle.queue_steps.specs.Attempts.{popped, completed, retried}
@@ -32,7 +32,7 @@ poppedIn g id = poppedAt g (spotOf g id)
 abbrev pub settledAt : Groups → ℕ → CompleteAnswer → GroupCompleteAnswer
 settledAt g i step = record { answer = step .answer; groups = withQueue g i (step .queue) }
 
--- a refusal gives the kept number back
+-- R62: a refusal gives the kept number back
 abbrev pub completedAt : Groups → Ticket → ℕ → ℕ → Spot → GroupCompleteAnswer
 completedAt g ticket outcome kept (Spot.Refused refusal) = record { answer = Completed.Refused refusal kept; groups = g }
 completedAt g ticket outcome kept (Spot.At i) = settledAt g i (completed (queueAt g i) ticket outcome kept)

@@ -1,4 +1,4 @@
--- Register and land of a group: document 01, "Groups", "other calls check 1, 10, then as the queue; other groups stay"
+-- R113, R114: register and land of a group
 use Prim.Native.Nat.{ℕ}
 use Rattle.queue_births.specs.Births.{registered, landed}
 use Rattle.queue_births.specs.declared.births.Registered.{Registered}
@@ -9,7 +9,7 @@ use Rattle.group_record.specs.declared.record.Groups.{Groups}
 use Rattle.group_check.specs.declared.ids.Spot.{Spot}
 use Rattle.group_steps.specs.declared.births.GroupRegisterAnswer.{GroupRegisterAnswer}
 
--- a refusal: its number, the undo number given, and the record as it was
+-- R62: a refusal: its number, the undo number given, and the record as it was
 abbrev pub refusedGroupBirth : Groups → ℕ → ℕ → GroupRegisterAnswer
 refusedGroupBirth g refusal number = record { answer = Registered.Refused refusal number; groups = g }
 

@@ -1,4 +1,4 @@
-// Pop, complete and retry of a group, by its id.
+// R113: pop, complete and retry of a group, by its id.
 use group_check::Spot;
 use group_check::look_up;
 use group_check::queue_at;

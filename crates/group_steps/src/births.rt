@@ -1,4 +1,4 @@
-// Register and land of a group, by its id.
+// R113: register and land of a group, by its id.
 use group_check::Spot;
 use group_check::look_up;
 use group_check::queue_at;

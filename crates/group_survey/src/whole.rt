@@ -1,4 +1,4 @@
-// The yes-or-no calls of the whole record, and how many groups are live.
+// R115 to R120: the yes-or-no calls of the whole record, and how many groups are live.
 use group_asking::Question;
 use group_asking::some;
 use group_asking::some_from;
@@ -35,7 +35,7 @@ fn tell_none(g: Groups, question: Question) -> Told
     say(!some(g, question))
 }
 
-// An id that is not live gets a no here, and not 10: this is the question whether it is.
+// R123: an id that is not live gets a no here, and not 10: this is the question whether it is.
 pub fn contains(g: Groups, id: u64) -> Told
     ensures { λ r. ⌜ r ≡ containsTold g id ⌝ }
 {
@@ -94,7 +94,7 @@ pub fn can_finish(g: Groups, target: &[u64]) -> Told
     say(!some_from(g, 0, Question::Unfinished, target))
 }
 
-// Of a sealed record yes, as upstream's body, though seal then gives 12.
+// R119: of a sealed record yes, as upstream's body, though seal then gives 12.
 pub fn can_seal(g: Groups) -> Told
     ensures { λ r. ⌜ r ≡ canSealOf g ⌝ }
 {

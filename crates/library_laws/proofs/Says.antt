@@ -1,4 +1,4 @@
--- What the library hands back is document 01's number and values, for each case of each answer
+-- R138: what the library hands back is the number and the values of each case of each answer
 use Prim.Native.Nat.{ℕ, suc}
 use mathlib.Core.Path.{_≡_, refl}
 use mathlib.Core.Bool.{Bool, true, false}

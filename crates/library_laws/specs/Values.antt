@@ -6,14 +6,14 @@ use mathlib.Core.Path.{_≡_}
 use Rattle.cleanup_queue.specs.Answers.{Said}
 use Rattle.queue_words.specs.Exported.{Exported}
 
--- document 01's values, with 0 where there are fewer than four
+-- R138: an answer's values, with 0 where there are fewer than four
 abbrev pub padded : List ℕ → List ℕ
 padded values = take 4 (values ++ replicate 4 0)
 
 abbrev pub valuesIn : Exported → List ℕ
 valuesIn x = drop 1 (x .answer)
 
--- number and values are those that the paper gives
+-- number and values are those of R138
 pub record TellsWords (x : Exported) (s : Said) : Type 0 where
   pub number : x .result ≡ s .number
   pub values : valuesIn x ≡ padded (s .values)

@@ -1,4 +1,4 @@
-// The answer as two lines of text, put into a lent buffer.
+// R132: the answer as two lines of text, put into a lent buffer.
 ghost use mathlib.Core.Path.{_≡_};
 ghost use mathlib.Core.List.{_++_};
 ghost use Prim.Native.Nat.{_+_, _*_, _≤_};

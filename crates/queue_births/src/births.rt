@@ -1,4 +1,4 @@
-// Register and land: the calls that append an undo number.
+// R38 to R40: register and land, the calls that append an undo number.
 use queue_decisions::land_refusal;
 use queue_decisions::register_refusal;
 use queue_record::Queue;
@@ -61,7 +61,7 @@ pub fn register(q: Queue, number: u64) -> RegisterAnswer
     }
 }
 
-// As register, and moves the stage.
+// R40: as register, and moves the stage.
 pub fn land(q: Queue, number: u64) -> RegisterAnswer
     ensures { λ r. ⌜ r ≡ landed q number ⌝ }
 {

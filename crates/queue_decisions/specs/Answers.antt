@@ -1,4 +1,4 @@
--- What refuses the answer to a ticket: document 01, "Numbers of refusal", in its order behind 1
+-- R64: what refuses the answer to a ticket, in its order behind 1
 use Prim.Native.Nat.{ℕ}
 use mathlib.Core.Bool.{Bool, false, not, _&&_}
 use lib.Dec.{eqb, ltb}
@@ -8,7 +8,7 @@ use Rattle.queue_record.specs.declared.record.Ticket.{Ticket}
 use Rattle.queue_record.specs.declared.record.Selection.{Selection}
 use Rattle.queue_record.specs.declared.record.Selection.the-variants.{Free, Of}
 
--- two tickets agree in every part
+-- R139: two tickets agree in every part
 abbrev pub sameTicket : Ticket → Ticket → Bool
 sameTicket s t = eqb (s .domain) (t .domain) && (eqb (s .token) (t .token) && eqb (s .attempt) (t .attempt))
 
@@ -16,11 +16,11 @@ abbrev pub selects : Selection → Ticket → Bool
 selects Free t = false
 selects (Of s) t = sameTicket s t
 
--- something is issued, and it is this ticket
+-- R63, number 6, denied: something is issued, and it is this ticket
 abbrev pub isOut : Bool → Selection → Ticket → Bool
 isOut issued selection t = issued && selects selection t
 
--- the outcome is 0 Done or 1 Failed; Done keeps no number
+-- R49: the two outcomes; R63, number 7: Done keeps no number
 abbrev pub keepsOnDone : ℕ → ℕ → Bool
 keepsOnDone outcome kept = eqb outcome 0 && not (eqb kept 0)
 

@@ -1,4 +1,4 @@
--- What refuses a birth: document 01, "Numbers of refusal", in its order behind 1
+-- R64: what refuses a birth, in its order behind 1
 use Prim.Native.Nat.{ℕ}
 use mathlib.Core.Bool.{not}
 use lib.Dec.{eqb, leb}

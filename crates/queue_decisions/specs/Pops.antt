@@ -1,4 +1,4 @@
--- What pop hands out: document 01, "Steps", refusals in the order of "Numbers of refusal" behind 1
+-- R41 to R47: what pop hands out, with its refusals in the order of R64 behind 1
 use Prim.Native.Nat.{ℕ, _+_}
 use mathlib.Core.Bool.{Bool}
 use mathlib.Core.List.{List}
@@ -15,39 +15,39 @@ use Rattle.queue_record.specs.declared.search.Found.the-variants.{At, Missing}
 use Rattle.queue_decisions.specs.Slots.{noMore, slotIn}
 use Rattle.queue_decisions.specs.declared.pops.Due.{Due}
 
--- the newest waiting token is looked for where nothing is selected: then every occupied slot waits
+-- R43: the newest waiting token is looked for where nothing is selected: then every occupied slot waits
 abbrev pub sought : Selection → List ℕ → Found
 sought Free slots = newest (occupied 0 slots)
 sought (Of t) slots = Missing
 
--- a fresh ticket carries next
+-- R45: a fresh ticket carries next
 abbrev pub freshOf : ℕ → ℕ → ℕ → Ticket
 freshOf domain token next = record { domain = domain; token = token; attempt = next }
 
--- by the number in its slot; next rises by 1. Order 9, 5
+-- R45: by the number in its slot; next rises by 1. Order 9, 5
 abbrev pub freshBy : ℕ → ℕ → ℕ → ℕ → Due
 freshBy token number domain next =
     if eqb number 0 then Due.Refused hollow else
     if leb noMore next then Due.Refused noAttempt else
     Due.Of (freshOf domain token next) number (next + 1)
 
--- none waiting gives Nothing
+-- R44: Nothing where none waits
 abbrev pub freshDue : Found → List ℕ → ℕ → ℕ → Due
 freshDue Missing slots domain next = Due.Nothing
 freshDue (At token) slots domain next = freshBy token (slotIn slots token) domain next
 
--- the ready ticket keeps its attempt
+-- R46: the ready ticket keeps its attempt
 abbrev pub readyBy : Ticket → ℕ → ℕ → Due
 readyBy ticket number next =
     if eqb number 0 then Due.Refused hollow else
     Due.Of ticket number next
 
--- the ready ticket, or else the newest waiting token
+-- R42, R43: the ready ticket, or else the newest waiting token
 abbrev pub dueBy : Found → List ℕ → ℕ → ℕ → Selection → Due
 dueBy found slots domain next Free = freshDue found slots domain next
 dueBy found slots domain next (Of ticket) = readyBy ticket (slotIn slots (ticket .token)) next
 
--- if issued or failed, Nothing
+-- R41: Nothing while a mark stands
 unfoldable pub popDue : Bool → Bool → Selection → Found → List ℕ → ℕ → ℕ → Due
 popDue issued failed selection found slots domain next =
     if issued then Due.Nothing else

@@ -1,4 +1,4 @@
--- Whether the selected ticket may be retried, and the ticket renewed: document 01, "Steps"
+-- Whether the selected ticket may be retried (R54), and the ticket renewed (R55)
 use Prim.Native.Nat.{ℕ}
 use mathlib.Core.Bool.{Bool, false, not, _&&_}
 use mathlib.Core.List.{List}
@@ -11,7 +11,7 @@ use Rattle.queue_record.specs.declared.record.Selection.the-variants.{Free, Of}
 use Rattle.queue_decisions.specs.Slots.{noMore, slotIn}
 use Rattle.queue_decisions.specs.declared.renewals.Renewal.{Renewal}
 
--- allowed if failed, the slot is occupied and next is below 18446744073709551615
+-- R54: failed stands, something is kept, and an attempt is left
 abbrev pub mayRetry : Bool → ℕ → ℕ → Bool
 mayRetry failed number next = failed && (not (eqb number 0) && ltb next noMore)
 
@@ -20,7 +20,7 @@ abbrev pub allowedBy : Bool → List ℕ → ℕ → Selection → Bool
 allowedBy failed slots next Free = false
 allowedBy failed slots next (Of t) = mayRetry failed (slotIn slots (t .token)) next
 
--- the ticket takes next
+-- R55: the ticket takes next
 abbrev pub renewedOf : Ticket → ℕ → Ticket
 renewedOf t next = record { domain = t .domain; token = t .token; attempt = next }
 

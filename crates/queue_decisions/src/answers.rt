@@ -1,4 +1,4 @@
-// What refuses the answer to a ticket; 0 where nothing does.
+// R64: what refuses the answer to a ticket; 0 where nothing does.
 use queue_record::Selection;
 use queue_record::Ticket;
 use queue_record::refusal::BAD_OUTCOME;
@@ -19,7 +19,7 @@ fn same_ticket(a: Ticket, b: Ticket) -> bool
     a.attempt == b.attempt
 }
 
-// Whether `ticket` is the one that is out.
+// R139: whether `ticket` is the one that is out, in every part.
 fn is_out(issued: bool, selection: Selection, ticket: Ticket) -> bool
     ensures { λ r. ⌜ r ≡ isOut issued selection ticket ⌝ }
 {

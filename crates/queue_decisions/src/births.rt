@@ -1,4 +1,4 @@
-// What refuses a register or a land; 0 where nothing does.
+// R64: what refuses a register or a land; 0 where nothing does.
 use queue_record::MOST_TOKENS;
 use queue_record::refusal::BAD_NUMBER;
 use queue_record::refusal::NO_SLOT;

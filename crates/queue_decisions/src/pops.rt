@@ -1,4 +1,4 @@
-// What pop hands out: the ready ticket, or else a fresh one for the newest waiting token.
+// R42 to R45: what pop hands out: the ready ticket, or else a fresh one for the newest waiting token.
 use crate::slots::NO_MORE;
 use crate::slots::slot_at;
 use queue_record::Found;

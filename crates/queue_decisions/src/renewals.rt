@@ -1,4 +1,4 @@
-// Whether the selected ticket may be retried, and the ticket renewed.
+// Whether the selected ticket may be retried (R54), and the ticket renewed (R55).
 use crate::slots::NO_MORE;
 use crate::slots::slot_at;
 use queue_record::Selection;
@@ -12,7 +12,7 @@ pub enum Renewal {
     Refused(u64),
 }
 
-// Failed, the slot occupied, and an attempt number left.
+// R54: failed, the slot occupied, and an attempt number left.
 fn may_retry(failed: bool, number: u64, next: u64) -> bool
     ensures { λ r. ⌜ r ≡ mayRetry failed number next ⌝ }
 {

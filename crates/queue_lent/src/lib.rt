@@ -1,4 +1,4 @@
-// Pop and complete on a queue that is lent and changed in place: thin faces over the calls by value.
+// R60: pop and complete on a record that the caller lends: thin faces over the calls by value.
 use queue_record::Queue;
 use queue_record::Ticket;
 use queue_steps::Completed;

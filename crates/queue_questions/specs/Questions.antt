@@ -1,4 +1,4 @@
--- The yes-or-no calls and domain: they refuse only with 1
+-- R65: the yes-or-no calls and domain: 1 alone refuses them
 use Prim.Native.Nat.{ℕ}
 use mathlib.Core.Bool.{Bool, true, false, not, _&&_}
 use mathlib.Core.List.{List, [], _∷_}
@@ -27,7 +27,7 @@ yesOrNo false = No
 abbrev pub asked : Queue → Bool → Told
 asked q answer = if not (wellFormed q) then Refused broken else yesOrNo answer
 
--- is_empty: nothing waiting and nothing selected
+-- R57: is_empty: nothing waiting and nothing selected
 abbrev pub nothingLeft : Selection → List ℕ → Bool
 nothingLeft Free [] = true
 nothingLeft Free (k ∷ ks) = false
@@ -51,18 +51,18 @@ isCancelledTold q = asked q (isCancelled (q .phase))
 unfoldable pub hasFailedTold : Queue → Told
 hasFailedTold q = asked q (q .failed)
 
--- can_retry: whether retry is allowed
+-- R58: can_retry: whether retry is allowed
 unfoldable pub canRetryTold : Queue → Told
 canRetryTold q = asked q (retryAllowed q (q .selection))
 
 abbrev pub committed : Queue → List ℕ
 committed q = take (q .bound) (q .bindings)
 
--- the target's set of members equals the committed set
+-- R34: the target has the members of the bindings
 abbrev pub matches : Queue → List ℕ → Bool
 matches q target = sameSet target (committed q)
 
--- can_finish: nothing is selected, the stage is neither pending nor cancelled, and target set equals committed set
+-- R56: no ticket, a stage that neither runs nor was cancelled, and a target that matches
 abbrev pub finishable : Selection → Phase → List ℕ → List ℕ → Bool
 finishable Free phase target bindings = not (isPending phase) && (not (isCancelled phase) && sameSet target bindings)
 finishable (Of t) phase target bindings = false

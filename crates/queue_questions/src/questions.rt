@@ -1,4 +1,4 @@
-// The yes-or-no calls and domain: each refuses a broken record, and changes nothing.
+// R56 to R58: the yes-or-no calls and domain: each refuses a broken record, and changes nothing.
 use queue_decisions::retry_allowed;
 use queue_record::Found;
 use queue_record::Queue;
@@ -26,7 +26,7 @@ pub fn say(yes: bool) -> Told
     Told::No
 }
 
-// Nothing waiting and nothing selected.
+// R57: nothing waiting and nothing selected.
 fn nothing_left(selection: Selection, slots: &[u64]) -> bool
     ensures { λ r. ⌜ r ≡ nothingLeft selection (others selection (occupied 0 (now (slots .entry)))) ⌝ }
 {
@@ -110,7 +110,7 @@ pub fn can_retry(q: Queue) -> Told
     say(retry_allowed(q.failed, selection, &slots, q.next))
 }
 
-// Nothing selected, neither pending nor cancelled, and the target's set is the committed one.
+// R56: nothing selected, neither pending nor cancelled, and the target's set is the committed one.
 pub fn may_finish(selection: Selection, phase: Phase, target: &[u64], committed: &[u64]) -> bool
     ensures { λ r. ⌜ r ≡ finishable selection phase (now (target .entry)) (now (committed .entry)) ⌝ }
 {

@@ -1,4 +1,4 @@
--- The blank queue, as a test: a scope of domain 0, first attempt 0 (blank-only: no other queue of 64 and 16 places passes)
+-- R26: the blank queue, as a test: no token, no number but 0 (blank-only: no other queue of 64 and 16 places passes)
 use mathlib.Core.Bool.{Bool, true, false, not, _&&_}
 use lib.Dec.{eqb}
 use Rattle.stage.specs.Phases.{differs}

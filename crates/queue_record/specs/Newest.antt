@@ -1,4 +1,4 @@
--- The newest of some tokens in ascending order: the last one, if there is one
+-- R43: the newest of some tokens in ascending order: the last one, if there is one
 use Prim.Native.Nat.{ℕ}
 use mathlib.Core.Bool.{Bool, true, false}
 use mathlib.Core.List.{List, [], _∷_}

@@ -1,4 +1,4 @@
--- The openings: document 01, "Queue record", its third paragraph
+-- R21 to R26: the openings
 use Prim.Native.Nat.{ℕ, _-_}
 use mathlib.Core.Bool.{false}
 use mathlib.Core.List.{List, [], _++_}
@@ -27,34 +27,34 @@ openingOf heading bindings = record { heading = heading; bindings = bindings }
 abbrev pub headingOf : Kind → ℕ → ℕ → Heading
 headingOf kind domain first = record { kind = kind; domain = domain; first = first }
 
--- the bindings as given, and 0 in the places behind them
+-- R22: the bindings as given, and 0 in the places behind them
 abbrev pub bindingPlaces : List ℕ → List ℕ
 bindingPlaces given = given ++ replicate (16 - length given) 0
 
--- a queue without tokens: next starts at the first attempt
+-- R23: a queue without tokens: next starts at the first attempt
 abbrev pub started : Heading → Phase → List ℕ → ℕ → Queue
 started heading phase bindings bound = record { kind = heading .kind; domain = heading .domain; next = heading .first; slots = replicate 64 0; count = 0; selection = Free; failed = false; issued = false; phase = phase; bindings = bindings; bound = bound }
 
 abbrev pub opened : Kind → Phase → ℕ → ℕ → List ℕ → Queue
 opened kind phase domain first bindings = started (headingOf kind domain first) phase (bindingPlaces bindings) (length bindings)
 
--- a scope starts Ended
+-- R24: a scope starts Ended
 unfoldable pub scopeOf : ℕ → ℕ → Queue
 scopeOf domain first = opened Scope Ended domain first []
 
--- an iterator starts Idle
+-- R24: an iterator starts Idle
 unfoldable pub iteratorOf : ℕ → ℕ → List ℕ → Queue
 iteratorOf domain first bindings = opened Iterator Idle domain first bindings
 
--- the blank queue: a scope of domain 0, first attempt 0
+-- R26: the blank queue
 unfoldable pub blank : Queue
 blank = scopeOf 0 0
 
--- nothing refuses a scope
+-- R25: nothing refuses a scope
 abbrev pub scopeOpened : ℕ → ℕ → OpenAnswer
 scopeOpened domain first = record { answer = Open; queue = scopeOf domain first }
 
--- more than 16 bindings: 14 and the blank queue
+-- R25, R26: more than 16 bindings: 14 and the blank queue
 unfoldable pub iteratorOpened : ℕ → ℕ → List ℕ → OpenAnswer
 iteratorOpened domain first bindings =
     if ltb 16 (length bindings) then record { answer = Refused tooManyBindings; queue = blank } else
@@ -65,7 +65,7 @@ abbrev pub keptBindings : Kind → List ℕ → List ℕ
 keptBindings Scope bindings = []
 keptBindings Iterator bindings = bindings
 
--- any opening; a scope looks at no bindings
+-- R25: any opening; a scope looks at no bindings
 abbrev pub openedBy : Kind → ℕ → ℕ → List ℕ → OpenAnswer
 openedBy Scope domain first bindings = scopeOpened domain first
 openedBy Iterator domain first bindings = iteratorOpened domain first bindings

@@ -1,4 +1,4 @@
--- The numbers of refusal: document 01, "Numbers of refusal", by their names there
+-- R63: the numbers of refusal, by their names
 use Prim.Native.Nat.{ℕ}
 
 abbrev pub done : ℕ

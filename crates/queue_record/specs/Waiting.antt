@@ -1,4 +1,4 @@
--- The waiting tokens: "the occupied slots other than the selected one, ascending"
+-- R11: the waiting tokens
 use Prim.Native.Nat.{ℕ, suc}
 use mathlib.Core.List.{List, [], _∷_}
 use lib.Dec.{eqb}
@@ -7,7 +7,7 @@ use Rattle.queue_record.specs.declared.record.Selection.{Selection}
 use Rattle.queue_record.specs.declared.record.Selection.the-variants.{Free, Of}
 use Rattle.queue_record.specs.declared.record.Queue.{Queue}
 
--- the places of the numbers other than 0, ascending, where the first number's place is k
+-- R5: the places of the numbers other than 0, ascending, where the first number's place is k
 abbrev pub occupied : ℕ → List ℕ → List ℕ
 occupied k [] = []
 occupied k (x ∷ xs) = if eqb x 0 then occupied (suc k) xs else k ∷ occupied (suc k) xs
@@ -16,7 +16,7 @@ abbrev pub without : ℕ → List ℕ → List ℕ
 without t [] = []
 without t (k ∷ ks) = if eqb k t then without t ks else k ∷ without t ks
 
--- all but the selected ticket's token
+-- R11: all but the selected ticket's token
 abbrev pub others : Selection → List ℕ → List ℕ
 others Free ks = ks
 others (Of t) ks = without (t .token) ks

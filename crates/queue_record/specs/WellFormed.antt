@@ -1,4 +1,4 @@
--- When a record is well formed: document 01, "Queue record", its second paragraph, a named clause each
+-- R12: when a record is well formed, a named clause each
 use Prim.Native.Nat.{ℕ}
 use mathlib.Core.Bool.{Bool, true, false, not, _&&_, _||_}
 use mathlib.Core.List.{List, [], _∷_}
@@ -13,11 +13,11 @@ use Rattle.queue_record.specs.declared.record.Selection.{Selection}
 use Rattle.queue_record.specs.declared.record.Selection.the-variants.{Free, Of}
 use Rattle.queue_record.specs.declared.record.Queue.{Queue}
 
--- at most 64 tokens
+-- R13: the tokens have room
 abbrev pub tokensFit : ℕ → Bool
 tokensFit count = leb count 64
 
--- and 16 bindings
+-- R13: the bindings have room
 abbrev pub bindingsFit : ℕ → Bool
 bindingsFit bound = leb bound 16
 
@@ -25,7 +25,7 @@ abbrev pub allZero : List ℕ → Bool
 allZero [] = true
 allZero (x ∷ xs) = eqb x 0 && allZero xs
 
--- unused places 0: from the count on
+-- R14: from the count on every place holds 0
 abbrev pub restZero : ℕ → List ℕ → Bool
 restZero used places = allZero (drop used places)
 
@@ -33,16 +33,16 @@ abbrev pub isSelected : Selection → Bool
 isSelected Free = false
 isSelected (Of t) = true
 
--- a selected ticket has the queue's domain, an issued token and an attempt below next
+-- R15: the ticket is this queue's, of a token that was given, and its attempt has been used
 abbrev pub ticketFits : ℕ → ℕ → ℕ → Selection → Bool
 ticketFits domain count next Free = true
 ticketFits domain count next (Of t) = eqb (t .domain) domain && (ltb (t .token) count && ltb (t .attempt) next)
 
--- failed or issued only with a selected ticket and never both
+-- R16, R17: a mark stands beside a ticket, and not beside the other mark
 abbrev pub marksFit : Bool → Bool → Bool → Bool
 marksFit selected failed issued = implies (failed || issued) selected && not (failed && issued)
 
--- issued means that slot is empty; neither failed nor issued (ready) means it is occupied
+-- R18, R19: the slot is empty while its number is out, and full while its ticket is ready
 abbrev pub slotFits : Bool → Bool → ℕ → Bool
 slotFits failed issued number = implies issued (eqb number 0) && implies (not failed && not issued) (not (eqb number 0))
 
@@ -51,7 +51,7 @@ abbrev pub selectedFits : Bool → Bool → List ℕ → Selection → Bool
 selectedFits failed issued slots Free = true
 selectedFits failed issued slots (Of t) = slotFits failed issued (getD slots (t .token) 0)
 
--- a scope has no bindings and its phase is Ended or Closed (where settled answers yes)
+-- R20: a scope takes no bindings, and its stage is settled
 abbrev pub scopeFits : Kind → ℕ → Phase → Bool
 scopeFits Scope bound phase = eqb bound 0 && isSettled phase
 scopeFits Iterator bound phase = true

@@ -1,4 +1,4 @@
-// Whether a record is well formed: one test for each clause.
+// R12: whether a record is well formed, one test for each clause.
 use crate::limits::MOST_BINDINGS;
 use crate::limits::MOST_TOKENS;
 use crate::record::Kind;
@@ -25,7 +25,7 @@ pub fn zeros_from(s: &[u64], from: u64) -> bool
     true
 }
 
-// A scope has no bindings and is Ended or Closed.
+// R20: a scope takes no bindings, and its stage is settled.
 pub fn scope_fits(kind: Kind, bound: u64, phase: Phase) -> bool
     ensures { λ r. ⌜ r ≡ scopeFits kind bound phase ⌝ }
 {
@@ -38,7 +38,7 @@ pub fn scope_fits(kind: Kind, bound: u64, phase: Phase) -> bool
     stage::settled(phase)
 }
 
-// A selected ticket has the queue's domain, an issued token and an attempt below next.
+// R15: the ticket is this queue's, of a token that was given, and its attempt has been used.
 pub fn ticket_fits(domain: u64, count: u64, next: u64, t: Ticket) -> bool
     ensures { λ r. ⌜ r ≡ ticketFits domain count next (Of t) ⌝ }
 {
@@ -51,7 +51,7 @@ pub fn ticket_fits(domain: u64, count: u64, next: u64, t: Ticket) -> bool
     t.attempt < next
 }
 
-// Never both marks; an issued slot is empty, a ready one occupied.
+// R17 to R19: never both marks; an issued slot is empty, a ready one occupied.
 pub fn slot_fits(failed: bool, issued: bool, number: u64) -> bool
     ensures { λ r. ⌜ r ≡ (marksFit true failed issued && slotFits failed issued number) ⌝ }
 {

@@ -1,4 +1,4 @@
-// The openings: a scope, and an iterator with its committed bindings.
+// R21 to R26: the openings: a scope, and an iterator with its committed bindings.
 use crate::limits::MOST_BINDINGS;
 use crate::record::Kind;
 use crate::record::Queue;
@@ -61,7 +61,7 @@ fn started(heading: Heading, phase: Phase, bindings: [u64; 16], bound: u64) -> Q
     }
 }
 
-// What a refused opening leaves.
+// R26: what a refused opening leaves.
 pub fn blank() -> Queue
     ensures { λ r. ⌜ r ≡ blank ⌝ }
 {
@@ -89,7 +89,7 @@ pub fn scope(domain: u64, first: u64) -> OpenAnswer
     }
 }
 
-// The committed bindings are kept as given; more than 16 are refused.
+// R22, R25: the committed bindings are kept as given; more than 16 are refused.
 pub fn iterator(domain: u64, first: u64, bindings: &[u64]) -> OpenAnswer
     ensures { λ r. ⌜ r ≡ iteratorOpened domain first (now (bindings .entry)) ⌝ }
 {

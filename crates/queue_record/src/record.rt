@@ -1,4 +1,4 @@
-// The parts of a queue record. Any value of these types is a legal argument of every call.
+// R1 to R10: the parts of a queue record. Any value of these types is a legal argument of every call.
 use stage::Phase;
 
 pub enum Kind {

@@ -1,4 +1,4 @@
-// The numbers of refusal.
+// R63: the numbers of refusal.
 pub const BROKEN: u64 = 1;
 
 pub const BAD_NUMBER: u64 = 2;

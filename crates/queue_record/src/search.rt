@@ -1,4 +1,4 @@
-// The search for the newest waiting token.
+// R43: the search for the newest waiting token.
 ghost use mathlib.Core.Path.{_≡_};
 ghost use Rattle.queue_record.specs.Waiting.{occupied};
 ghost use Rattle.queue_record.specs.Newest.{newest};

@@ -1,4 +1,4 @@
-// The record with another kind, selection or phase: a field that is an enum is not stored to, so the record is written anew.
+// The record with another kind, selection or phase: no enum in a struct takes a store, so the record is written anew.
 use crate::record::Kind;
 use crate::record::Queue;
 use crate::record::Selection;

@@ -1,4 +1,4 @@
-// How many tokens wait.
+// R11: how many tokens wait.
 use crate::record::Selection;
 ghost use mathlib.Core.Path.{_≡_};
 ghost use lib.ListN.{length};

@@ -1,4 +1,4 @@
--- Admit, end and cancel: document 01, "Stage phases"
+-- R28 to R37: admit, end and cancel
 use mathlib.Core.Bool.{Bool, not}
 use Rattle.choice.specs.Choice.{if_then_else_}
 use Rattle.stage.specs.Phases.{phaseAfter, isPending}
@@ -22,19 +22,19 @@ staged answer q = record { answer = answer; queue = q }
 abbrev pub refusedStage : Queue → StageAnswer
 refusedStage q = staged (Refused broken) q
 
--- from Idle, admit moves only if a target is given and matches; elsewhere it is a dash in the table
+-- R33: an Idle stage moves for a target that matches; in every other phase the table lets admit move nothing
 abbrev pub afterAdmit : Phase → Bool → Phase
 afterAdmit phase matched = if matched then phaseAfter phase Admit else phase
 
--- admit answers whether the stage is pending afterwards
+-- R35: yes if the stage is pending behind the call
 abbrev pub admittedBy : Queue → Bool → StageAnswer
 admittedBy q matched = staged (yesOrNo (isPending (afterAdmit (q .phase) matched))) (withPhase q (afterAdmit (q .phase) matched))
 
--- matched: a target is given and its set equals the committed set
+-- R33, R34: matched: there is a target, and its members are the committed ones
 unfoldable pub admitted : Queue → Bool → StageAnswer
 admitted q matched = if not (wellFormed q) then refusedStage q else admittedBy q matched
 
--- end answers whether the stage was pending before
+-- R36: yes if the stage was pending when the call came
 unfoldable pub ended : Queue → StageAnswer
 ended q =
     if not (wellFormed q) then refusedStage q else

@@ -1,4 +1,4 @@
-// Admit, end and cancel: the calls that move the stage and nothing else.
+// R33 to R37: admit, end and cancel, the calls that move the stage and nothing else.
 use queue_questions::Told;
 use queue_questions::say;
 use queue_record::Queue;
@@ -17,7 +17,7 @@ pub struct StageAnswer {
     pub queue: Queue,
 }
 
-// From Idle, admit moves only with a target that matches; elsewhere it moves nothing.
+// R33: an Idle stage moves only for a target that matches; in other phases admit moves nothing.
 pub fn after_admit(phase: Phase, matched: bool) -> Phase
     ensures { λ r. ⌜ r ≡ afterAdmit phase matched ⌝ }
 {
@@ -50,7 +50,7 @@ fn stage_refused(q: Queue) -> StageAnswer
     }
 }
 
-// With a target; yes if the stage is pending afterwards.
+// R35: with a target; yes if the stage is pending afterwards.
 pub fn admit(q: Queue, target: &[u64]) -> StageAnswer
     ensures { λ r. ⌜ r ≡ admitted q (matches q (now (target .entry))) ⌝ }
 {
@@ -73,7 +73,7 @@ pub fn admit_without(q: Queue) -> StageAnswer
     admit_by(q, false)
 }
 
-// Yes if the stage was pending before.
+// R36: yes if the stage was pending before.
 pub fn end(q: Queue) -> StageAnswer
     ensures { λ r. ⌜ r ≡ ended q ⌝ }
 {

@@ -1,4 +1,4 @@
--- Pop, complete and retry: document 01, "Steps"; what they choose and what refuses them is decided in queue_decisions
+-- Pop (R41 to R47), complete (R48 to R53), retry (R54, R55); what they choose and what refuses them is decided in queue_decisions
 use Prim.Native.Nat.{ℕ, _+_}
 use mathlib.Core.Bool.{Bool, true, false, not}
 use lib.Dec.{eqb}
@@ -37,14 +37,14 @@ refusedPop q refusal = record { answer = Popped.Refused refusal; queue = q }
 abbrev pub poppedNothing : Queue → PopAnswer
 poppedNothing q = record { answer = Nothing; queue = q }
 
--- the ticket is selected, the slot empties, issued is set
+-- R47: the ticket is selected, the slot empties, issued is set
 abbrev pub issuedTo : Queue → Ticket → ℕ → Queue
 issuedTo q ticket next = withIssued (withNext (withSlot (withSelection q (Of ticket)) (ticket .token) 0) next) true
 
 abbrev pub handed : Queue → Ticket → ℕ → ℕ → PopAnswer
 handed q ticket number next = record { answer = Work ticket number; queue = issuedTo q ticket next }
 
--- a fresh ticket carries next
+-- R45: a fresh ticket carries next
 abbrev pub freshTicket : Queue → ℕ → Ticket
 freshTicket q token = freshOf (q .domain) token (q .next)
 
@@ -58,7 +58,7 @@ poppedAs q Due.Nothing = poppedNothing q
 poppedAs q (Due.Refused refusal) = refusedPop q refusal
 poppedAs q (Due.Of ticket number next) = handed q ticket number next
 
--- pop. Order 1, 9, 5
+-- R41 to R47. Order 1, 9, 5
 unfoldable pub popped : Queue → PopAnswer
 popped q =
     if not (wellFormed q) then refusedPop q broken else
@@ -68,17 +68,17 @@ popped q =
 abbrev pub refusedComplete : Queue → ℕ → ℕ → CompleteAnswer
 refusedComplete q refusal kept = record { answer = Completed.Refused refusal kept; queue = q }
 
--- the slot takes the kept number, issued clears
+-- R50: the slot takes the kept number, issued clears
 abbrev pub tookBack : Queue → ℕ → ℕ → Queue
 tookBack q token kept = withIssued (withSlot q token kept) false
 
--- Done clears the selection; Failed keeps it and sets failed
+-- R51, R52: with Done no ticket is left; with Failed it stays, and is marked
 abbrev pub answered : Queue → ℕ → ℕ → ℕ → Queue
 answered q token outcome kept =
     if eqb outcome 0 then withSelection (tookBack q token kept) Free else
     withFailed (tookBack q token kept) true
 
--- settled, or refused with the kept number given
+-- R62: settled, or refused with the kept number given
 abbrev pub completedBy : Queue → Ticket → ℕ → ℕ → ℕ → CompleteAnswer
 completedBy q ticket outcome kept refusal = if eqb refusal 0 then record { answer = Settled; queue = answered q (ticket .token) outcome kept } else refusedComplete q refusal kept
 
@@ -86,7 +86,7 @@ completedBy q ticket outcome kept refusal = if eqb refusal 0 then record { answe
 abbrev pub refusalIn : Queue → Ticket → ℕ → ℕ → ℕ
 refusalIn q ticket outcome kept = completeRefusal (q .issued) (q .selection) ticket outcome kept
 
--- complete. Order 1, 15, 6, 7
+-- R48 to R53. Order 1, 15, 6, 7
 unfoldable pub completed : Queue → Ticket → ℕ → ℕ → CompleteAnswer
 completed q ticket outcome kept =
     if not (wellFormed q) then refusedComplete q broken kept else
@@ -105,11 +105,11 @@ refusedRetry q refusal = record { answer = Retried.Refused refusal; queue = q }
 abbrev pub retryAllowed : Queue → Selection → Bool
 retryAllowed q s = allowedBy (q .failed) (q .slots) (q .next) s
 
--- the ticket takes next
+-- R55: the ticket takes next
 abbrev pub renewed : Queue → Ticket → Ticket
 renewed q t = renewedOf t (q .next)
 
--- the renewed ticket is selected, next rises past it, failed clears
+-- R55: the renewed ticket is selected, next rises past it, failed clears
 abbrev pub renewedTo : Queue → Ticket → Queue
 renewedTo q t = withFailed (withNext (withSelection q (Of t)) (t .attempt + 1)) false
 
@@ -124,7 +124,7 @@ retriedAs q (Renewal.Of t) = again q t
 abbrev pub dueAgainIn : Queue → Renewal
 dueAgainIn q = retryDue (q .failed) (q .selection) (q .slots) (q .next)
 
--- retry. Order 1, 8
+-- R54, R55. Order 1, 8
 unfoldable pub retried : Queue → RetryAnswer
 retried q =
     if not (wellFormed q) then refusedRetry q broken else

@@ -1,4 +1,4 @@
-// Pop, complete and retry: an undo number goes out, is answered, and may go out again.
+// R41 to R55: pop, complete and retry: an undo number goes out, is answered, and may go out again.
 use queue_decisions::Due;
 use queue_decisions::Renewal;
 use queue_decisions::complete_refusal;

@@ -121,7 +121,7 @@ toldSaid (Told.Refused refusal) ws = refusedOn refusal 0 ws
 abbrev pub stageExported : StageAnswer → Exported
 stageExported r = toldSaid (r .answer) (wordsOf (r .queue))
 
--- matched: a target is given and its set equals the committed set
+-- matched: there is a target, and its members are the committed ones
 abbrev pub admitBy : List ℕ → Bool → Exported
 admitBy ws matched = onRecord ws 0 (stageExported (admitted (queueOf ws) matched))
 

@@ -1,4 +1,4 @@
--- Sets of bindings, held as lists: document 01, "order and repeats don't count"
+-- R34: sets of bindings, held as lists
 use Prim.Native.Nat.{ℕ}
 use mathlib.Core.Path.{_≡_}
 use mathlib.Core.Bool.{Bool, true, false, _&&_, _||_}

@@ -1,4 +1,4 @@
--- The phases of a stage: document 01, "Stage phases"
+-- R28 to R32: the phases of a stage
 use Prim.Native.Nat.{ℕ}
 use mathlib.Core.Bool.{Bool, true, false, not}
 use lib.Dec.{eqb}
@@ -15,7 +15,7 @@ phaseRow admit land end cancel Land = land
 phaseRow admit land end cancel End = end
 phaseRow admit land end cancel Cancel = cancel
 
--- the phase after an event: the paper's table, with the phase itself for a dash, "no change"
+-- R28: the phase after an event; where it stays, the phase itself
 abbrev pub phaseAfter : Phase → Event → Phase
 phaseAfter Idle = phaseRow Pending Idle Idle Closed
 phaseAfter Pending = phaseRow Pending Idle Ended Stopping
@@ -23,7 +23,7 @@ phaseAfter Ended = phaseRow Ended Ended Ended Closed
 phaseAfter Stopping = phaseRow Stopping Closed Closed Stopping
 phaseAfter Closed = phaseRow Closed Closed Closed Closed
 
--- pending answers yes in Pending and Stopping
+-- R30: yes in Pending and Stopping
 abbrev pub isPending : Phase → Bool
 isPending Idle = false
 isPending Pending = true
@@ -31,7 +31,7 @@ isPending Ended = false
 isPending Stopping = true
 isPending Closed = false
 
--- settled answers yes in Ended and Closed
+-- R31: yes in Ended and Closed
 abbrev pub isSettled : Phase → Bool
 isSettled Idle = false
 isSettled Pending = false
@@ -39,7 +39,7 @@ isSettled Ended = true
 isSettled Stopping = false
 isSettled Closed = true
 
--- cancelled answers yes in Stopping and Closed
+-- R32: yes in Stopping and Closed
 abbrev pub isCancelled : Phase → Bool
 isCancelled Idle = false
 isCancelled Pending = false
@@ -47,7 +47,7 @@ isCancelled Ended = false
 isCancelled Stopping = true
 isCancelled Closed = true
 
--- the phases as numbers, in the table's order
+-- R29: the phases as numbers, in the table's order
 abbrev pub phaseNumber : Phase → ℕ
 phaseNumber Idle = 0
 phaseNumber Pending = 1
@@ -55,7 +55,7 @@ phaseNumber Ended = 2
 phaseNumber Stopping = 3
 phaseNumber Closed = 4
 
--- the events as numbers, in the table's order
+-- R29: the events as numbers, in the table's order
 abbrev pub eventNumber : Event → ℕ
 eventNumber Admit = 0
 eventNumber Land = 1

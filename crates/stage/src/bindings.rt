@@ -1,4 +1,4 @@
-// Sets of bindings, held as lists: order and repeats don't count.
+// R34: sets of bindings, held as lists.
 ghost use mathlib.Core.Path.{_≡_};
 ghost use mathlib.Core.Bool.{true};
 ghost use Rattle.stage.specs.Bindings.{member, within, sameSet, SameMembers};

@@ -1,4 +1,4 @@
-// The five phases, the four events, and the table of next phases.
+// R28, R29: the five phases, the four events, and the table of next phases.
 ghost use mathlib.Core.Path.{_≡_};
 ghost use Rattle.stage.specs.Phases.{phaseAfter, isPending, isSettled, isCancelled, phaseNumber, eventNumber, phaseAt, differs};
 
@@ -17,7 +17,7 @@ pub enum Event {
     Cancel,
 }
 
-// A row for each phase, a column for each event; where the paper has a dash, the phase itself.
+// R28: a row for each phase, a column for each event; where the phase stays, the phase itself.
 const NEXT: [[u64; 4]; 5] = [
     [1, 0, 0, 4],
     [1, 0, 2, 3],

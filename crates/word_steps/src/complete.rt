@@ -12,7 +12,7 @@ ghost use Rattle.queue_steps.specs.Attempts.{answered, refusalIn, completed};
 ghost use Rattle.queue_words.specs.Words.{queueOf, wordsOf, isSound};
 ghost use Rattle.queue_words.specs.Exported.{exported, onRecord, completeExported, completeOn};
 
-// The slot takes the kept number, issued clears; Done clears the selection, Failed sets failed.
+// R50 to R52: the slot takes the kept number, issued clears; Done frees the selection, Failed marks it.
 pub fn settle(queue: &mut Words, token: u64, outcome: u64, kept: u64)
     requires { ⌜ (isSound (now queue) ≡ true) × (token < 64) ⌝ }
     ensures { λ _. ⌜ now (queue .exit) ≡ wordsOf (answered (queueOf (now (queue .entry))) token outcome kept) ⌝ }

@@ -1,4 +1,4 @@
--- A scope of domain 0, first attempt 0, as started
+-- R26: the blank queue, as started
 use Rattle.queue_record.specs.Openings.{scopeOf, blank}
 use borrow.Author.Needs.{needs}
 use Rattle.queue_record.proofs.openings.blank.Statement.{statement}
