@@ -3,8 +3,8 @@ use crate::record::Groups;
 use crate::record::Place;
 use queue_record::Queue;
 use queue_record::blank;
-ghost use mathlib.Core.Path.{_≡_};
 ghost use Prim.Native.Nat.{_<_};
+ghost use mathlib.Core.Path.{_≡_};
 ghost use Rattle.group_record.specs.Record.{freePlace, livePlace, emptyOf, withPlace, withQueue, withOpened, sealing};
 
 pub fn free_place() -> Place

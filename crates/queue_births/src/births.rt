@@ -6,8 +6,8 @@ use queue_record::move_to;
 use queue_record::refusal::BROKEN;
 use queue_record::well_formed;
 use stage::Event;
-ghost use mathlib.Core.Path.{_≡_};
 ghost use Prim.Native.Nat.{_<_};
+ghost use mathlib.Core.Path.{_≡_};
 ghost use Rattle.queue_births.specs.Births.{refusedBirth, grown, registered, landed};
 
 pub enum Registered {

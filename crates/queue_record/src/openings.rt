@@ -5,8 +5,8 @@ use crate::record::Queue;
 use crate::record::Selection;
 use crate::refusal::TOO_MANY_BINDINGS;
 use stage::Phase;
-ghost use mathlib.Core.Path.{_≡_};
 ghost use Prim.Native.Nat.{_≤_};
+ghost use mathlib.Core.Path.{_≡_};
 ghost use lib.ListN.{length};
 ghost use Rattle.queue_record.specs.Openings.{bindingPlaces, started, blank, openingOf, scopeOpened, iteratorOpened, openedAs};
 

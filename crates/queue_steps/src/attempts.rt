@@ -11,8 +11,8 @@ use queue_record::Ticket;
 use queue_record::refusal::BROKEN;
 use queue_record::select;
 use queue_record::well_formed;
-ghost use mathlib.Core.Path.{_≡_};
 ghost use Prim.Native.Nat.{_<_};
+ghost use mathlib.Core.Path.{_≡_};
 ghost use Rattle.queue_steps.specs.Attempts.{refusedPop, poppedNothing, handed, popped, answered, refusedComplete, completed, refusedRetry, renewedTo, retried};
 
 pub enum Popped {

@@ -6,8 +6,8 @@ use queue_record::scope_fits;
 use queue_record::slot_fits;
 use queue_record::ticket_fits;
 use queue_record::zeros_from;
-ghost use mathlib.Core.Path.{_≡_};
 ghost use Prim.Native.Nat.{_≤_};
+ghost use mathlib.Core.Path.{_≡_};
 ghost use Rattle.queue_words.specs.Layout.{atCount};
 ghost use Rattle.queue_words.specs.Words.{word, marksEncode, ticketEncodes, queueOf, encodes, placesFit, selectionFits, isSound};
 
