@@ -26,29 +26,29 @@ use Rattle.queue_words.proofs.OnWords.{record-sound, sound-fits, sound-on, soun
 use Rattle.library_laws.specs.CallWords.{WordCall, register, land, pop, complete, retry, admit, admitWithout, end, cancel, wordsAfter, wordsAfterAll}
 
 -- ---- whatever an answer is, the words are those that it was given
-born-words : (a : Registered) (ws : List ℕ) → bornSaid a ws .words ≡ ws
+pub born-words : (a : Registered) (ws : List ℕ) → bornSaid a ws .words ≡ ws
 born-words (Registered.Token t) ws = refl
 born-words (Registered.Refused n given) ws = refl
 
-pop-words : (a : Popped) (ws : List ℕ) → popSaid a ws .words ≡ ws
+pub pop-words : (a : Popped) (ws : List ℕ) → popSaid a ws .words ≡ ws
 pop-words (Popped.Work t n) ws = refl
 pop-words Popped.Nothing ws = refl
 pop-words (Popped.Refused n) ws = refl
 
-complete-words : (a : Completed) (ws : List ℕ) → completeSaid a ws .words ≡ ws
+pub complete-words : (a : Completed) (ws : List ℕ) → completeSaid a ws .words ≡ ws
 complete-words Completed.Settled ws = refl
 complete-words (Completed.Refused n kept) ws = refl
 
-retry-words : (a : Retried) (ws : List ℕ) → retrySaid a ws .words ≡ ws
+pub retry-words : (a : Retried) (ws : List ℕ) → retrySaid a ws .words ≡ ws
 retry-words (Retried.Again t) ws = refl
 retry-words (Retried.Refused n) ws = refl
 
-told-words : (a : Told) (ws : List ℕ) → toldSaid a ws .words ≡ ws
+pub told-words : (a : Told) (ws : List ℕ) → toldSaid a ws .words ≡ ws
 told-words Told.Yes ws = refl
 told-words Told.No ws = refl
 told-words (Told.Refused n) ws = refl
 
-cancel-words : (a : Cancelled) (ws : List ℕ) → cancelSaid a ws .words ≡ ws
+pub cancel-words : (a : Cancelled) (ws : List ℕ) → cancelSaid a ws .words ≡ ws
 cancel-words Cancelled.Done ws = refl
 cancel-words (Cancelled.Refused n) ws = refl
 

@@ -1,2 +1,3 @@
 pub mod CallWords
 pub mod Values
+pub mod Sessions

@@ -1,0 +1,169 @@
+-- A bench that only calls the library keeps a sound queue, and what its recorded calls left is read back to the very same words
+use Prim.Native.Nat.{ℕ, _*_, _≤_}
+use mathlib.Core.Path.{_≡_, refl, sym, ap, _∙_, subst}
+use mathlib.Core.Bool.{Bool, true, false, not}
+use mathlib.Core.List.{List, [], _∷_}
+use native.Mathlib.Omega.{arith}
+use borrow.Author.Tests.{eqb-true, eqb-false}
+use lib.Dec.{eqb, ltb}
+use lib.ListN.{take}
+use Rattle.choice.proofs.Ways.{miss, if-by, and-left}
+use Rattle.queue_record.specs.Record.{Sized}
+use Rattle.queue_record.specs.Refusals.{done}
+use Rattle.queue_record.specs.WellFormed.{wellFormed}
+use Rattle.queue_record.specs.Openings.{Opening, openedAs}
+use Rattle.queue_record.specs.declared.record.Queue.{Queue}
+use Rattle.queue_record.proofs.Opened.{opened-well-formed, opened-sized, opened-refused}
+use Rattle.queue_questions.specs.Questions.{matches}
+use Rattle.cleanup_queue.specs.Answers.{Said, registeredSays, poppedSays, completedSays, retriedSays, toldSays, cancelledSays}
+use Rattle.cleanup_queue.specs.Runs.{Call}
+use Rattle.cleanup_queue.proofs.Keeps.{call-keeps}
+use Rattle.cleanup_queue.proofs.Sizes.{call-sized}
+use Rattle.log_births.specs.Births.{registerRecorded, landRecorded}
+use Rattle.log_attempts.specs.Attempts.{popRecorded, completeRecorded, retryRecorded}
+use Rattle.log_stages.specs.Stages.{admitRecorded, endRecorded, cancelRecorded}
+use Rattle.log_entries.specs.Keeping.{Kept}
+use Rattle.log_rows.specs.Rows.{rows}
+use Rattle.log_rows.specs.declared.Row.{Row}
+use Rattle.log_replay.specs.Replay.{replayed}
+use Rattle.log_replay.proofs.RowsKeep.{row-keeps, row-sized}
+use Rattle.log_reader.specs.Walk.{readFrom}
+use Rattle.log_reader.specs.Reader.{endOf, ReadsAs, refusedOpening, badAt, goodLog}
+use Rattle.log_reader.specs.declared.reading.Read.{Read}
+use Rattle.log_reader.proofs.Rightly.{reads-from}
+use Rattle.log_reader.specs.declared.reading.Reading.{Reading}
+use Rattle.queue_words.specs.Words.{word, ticketOf, queueOf, wordsOf, encodes, isSound}
+use Rattle.queue_words.specs.Exported.{Exported, bornSaid, popSaid, completeSaid, retrySaid, toldSaid, cancelSaid}
+use Rattle.queue_words.proofs.RoundTrip.{queue-sized, queue-again}
+use Rattle.queue_words.proofs.OnWords.{record-sound, sound-fits, sound-length}
+use Rattle.gulberzan_c.specs.Recorded.{Recorded, keptSaid, onLogged, registerRecordedOn, landRecordedOn, popRecordedOn, completeRecordedOn, retryRecordedOn}
+use Rattle.gulberzan_c.specs.Recorded.{admitRecordedOn, admitWithoutRecordedOn, endRecordedOn, cancelRecordedOn}
+use Rattle.history.specs.Histories.{Bench, bench, Outcome, outcome, recorded, called, numberOf, Start, History, opens, calls, wordsWritten}
+use Rattle.history.proofs.Written.{benches, refused-stays, accepted-is}
+use Rattle.history.proofs.Spoken.{Stands, stands}
+use Rattle.history.proofs.Accepts.{history-read}
+use Rattle.gulberzan_c.specs.ReadBack.{ReadOn, noKind, readBack, readSaid}
+use Rattle.library_laws.specs.CallWords.{WordCall}
+use Rattle.library_laws.specs.Sessions.{Session, session, loggedBy, LibraryCall, opensScope, opensIterator, openingBy, sessionAfter, sessionAfterAll, Recorder, begins, goesOn, usedWords}
+use Rattle.library_laws.proofs.Sounds.{callOf, born-words, pop-words, complete-words, retry-words, told-words, cancel-words, sound-after, scope-sound, iterator-sound}
+use Rattle.library_laws.proofs.Says.{born-tells, pop-tells, complete-tells, retry-tells, told-number, cancel-tells}
+
+-- ---- an exported recorded call on sound words is the bench's recorded call on the record that they encode
+abbrev Matches : Recorded → Outcome → Type 0
+Matches r o = (r .call .words ≡ wordsOf (o .bench .queue)) × (r .log ≡ o .bench .log) × (r .used ≡ o .bench .used) × (r .call .result ≡ o .number)
+
+module _ (ws : List ℕ) (s : isSound ws ≡ true) (log : List ℕ) (used : ℕ) where
+  kept-matches : {A : Type 0} (said : A → List ℕ → Exported) (says : A → Said) → ((a : A) (vs : List ℕ) → said a vs .words ≡ vs)
+      → ((a : A) (vs : List ℕ) → said a vs .result ≡ says a .number) → (given : ℕ) (k : Kept A) → Matches (onLogged ws given log used (keptSaid said k)) (outcome says k)
+  unfolding isSound
+  kept-matches said says words number given k =
+      subst (λ (r : Recorded). Matches r (outcome says k)) (sym (miss _ (ap not (and-left (encodes ws) (wellFormed (queueOf ws)) s))))
+      (words (k .answer) _, refl, refl, number (k .answer) _)
+
+  abbrev from : Bench
+  from = bench (queueOf ws) used log
+
+  logged-is : (c : WordCall) → Matches (loggedBy (session ws log used) c) (recorded from (callOf ws c))
+  unfolding registerRecordedOn landRecordedOn popRecordedOn completeRecordedOn retryRecordedOn admitRecordedOn admitWithoutRecordedOn endRecordedOn cancelRecordedOn
+  logged-is (WordCall.register n) = kept-matches bornSaid registeredSays born-words (λ a vs. born-tells vs a .number) n (registerRecorded (queueOf ws) n log used)
+  logged-is (WordCall.land n) = kept-matches bornSaid registeredSays born-words (λ a vs. born-tells vs a .number) n (landRecorded (queueOf ws) n log used)
+  logged-is WordCall.pop = kept-matches popSaid poppedSays pop-words (λ a vs. pop-tells vs a .number) 0 (popRecorded (queueOf ws) log used)
+  logged-is (WordCall.complete t o k) =
+      kept-matches completeSaid completedSays complete-words (λ a vs. complete-tells vs a .number) k
+      (completeRecorded (queueOf ws) (ticketOf (word t 0) (word t 1) (word t 2)) o k log used)
+  logged-is WordCall.retry = kept-matches retrySaid retriedSays retry-words (λ a vs. retry-tells vs a .number) 0 (retryRecorded (queueOf ws) log used)
+  logged-is (WordCall.admit t) = kept-matches toldSaid toldSays told-words (λ a vs. told-number vs a) 0 (admitRecorded (queueOf ws) (matches (queueOf ws) t) log used)
+  logged-is WordCall.admitWithout = kept-matches toldSaid toldSays told-words (λ a vs. told-number vs a) 0 (admitRecorded (queueOf ws) false log used)
+  logged-is WordCall.end = kept-matches toldSaid toldSays told-words (λ a vs. told-number vs a) 0 (endRecorded (queueOf ws) log used)
+  logged-is WordCall.cancel = kept-matches cancelSaid cancelledSays cancel-words (λ a vs. cancel-tells vs a .number) 0 (cancelRecorded (queueOf ws) log used)
+
+-- ---- sound words stay sound
+-- a recorded call leaves a well formed record of whole arrays
+called-fits : (b : Bench) (c : Call) → wellFormed (b .queue) ≡ true → Sized (b .queue) → wellFormed (called b c .queue) ≡ true × Sized (called b c .queue)
+called-fits b c w z = go (eqb (numberOf b c) 0) refl
+  where
+    go : (d : Bool) → eqb (numberOf b c) 0 ≡ d → wellFormed (called b c .queue) ≡ true × Sized (called b c .queue)
+    go true e =
+        subst (λ (x : Bench). wellFormed (x .queue) ≡ true × Sized (x .queue)) (sym (accepted-is b c (eqb-true _ _ e) .1))
+        (call-keeps (b .queue) c w, call-sized (b .queue) c z)
+    go false e = subst (λ (x : Bench). wellFormed (x .queue) ≡ true × Sized (x .queue)) (sym (refused-stays b c (eqb-false _ _ e))) (w, z)
+
+logged-sound : (s : Session) → isSound (s .words) ≡ true → (c : WordCall) → isSound (loggedBy s c .call .words) ≡ true
+logged-sound s h c =
+    let m = logged-is (s .words) h (s .log) (s .used) c in
+    let f = called-fits (from (s .words) h (s .log) (s .used)) (callOf (s .words) c) (sound-fits (s .words) h) (queue-sized (s .words) (sound-length (s .words) h)) in
+    ap isSound (m .0) ∙ record-sound _ (f .1) (f .0)
+
+-- what the reader gives is well formed, whatever the log
+end-fits : (rs : List Row) (q : Queue) → wellFormed q ≡ true → Sized q → wellFormed (endOf q rs) ≡ true × Sized (endOf q rs)
+end-fits [] q w z = (w, z)
+end-fits (r ∷ rs) q w z = end-fits rs (replayed q r .queue) (row-keeps q w r) (row-sized q z r)
+
+read-fits : (o : Opening) (log : List ℕ) (r : Reading) → ReadsAs o log r → wellFormed (r .queue) ≡ true × Sized (r .queue)
+read-fits o log r (refusedOpening {n} e) =
+    subst (λ (q : Queue). wellFormed q ≡ true × Sized q) (opened-refused n o e .1) (opened-well-formed o, opened-sized o)
+read-fits o log r (badAt place e b) = end-fits (take place (rows log)) (openedAs o .queue) (opened-well-formed o) (opened-sized o)
+read-fits o log r (goodLog e b) = end-fits (rows log) (openedAs o .queue) (opened-well-formed o) (opened-sized o)
+
+read-sound : (o : Opening) (log : List ℕ) → isSound (wordsOf (readFrom (openedAs o) log .queue)) ≡ true
+read-sound o log = let f = read-fits o log (readFrom (openedAs o) log) (reads-from o log) in record-sound (readFrom (openedAs o) log .queue) (f .1) (f .0)
+
+session-step : (s : Session) → isSound (s .words) ≡ true → (c : LibraryCall) → isSound (sessionAfter s c .words) ≡ true
+session-step s h (opensScope domain first) = scope-sound domain first
+session-step s h (opensIterator domain first bindings) = iterator-sound domain first bindings
+session-step s h (LibraryCall.calls c) = sound-after (s .words) h c
+session-step s h (LibraryCall.records c) = logged-sound s h c
+session-step s h (LibraryCall.reads kind domain first bindings log) =
+    if-by (λ (t : Session). isSound (t .words) ≡ true) (ltb 1 kind) _ _ (λ _. h)
+    (λ _. read-sound (openingBy kind domain first bindings) log)
+
+-- whatever is called, recorded or read, a queue that was opened stays sound: 1 is never said of it
+pub session-sound : (s : Session) → isSound (s .words) ≡ true → (cs : List LibraryCall) → isSound (sessionAfterAll s cs .words) ≡ true
+session-sound s h [] = h
+session-sound s h (c ∷ cs) = session-sound (sessionAfter s c) (session-step s h c) cs
+
+-- ---- recorded calls and the reader
+-- where a session of recorded calls stands: a history of a bench whose record its words are
+pub record Lived (o : Opening) (memory : List ℕ) (s : Session) : Type 0 where
+  pub bench : Bench
+  pub history : History (record { opening = o; memory = memory }) bench
+  pub words : s .words ≡ wordsOf (bench .queue)
+  pub log : s .log ≡ bench .log
+  pub used : s .used ≡ bench .used
+
+lived : (o : Opening) (memory : List ℕ) (s : Session) → Recorder o memory s → Lived o memory s
+lived o memory _ (begins e) = record { bench = bench (openedAs o .queue) 0 memory; history = opens e; words = refl; log = refl; used = refl }
+lived o memory _ (goesOn {s} r c h) =
+    let l : Lived o memory s = lived o memory s r in
+    let st : Start = record { opening = o; memory = memory } in
+    let i : Stands st (l .bench) = stands st (l .bench) (l .history) in
+    let sound : isSound (s .words) ≡ true = ap isSound (l .words) ∙ record-sound (l .bench .queue) (i .sized) (i .sound) in
+    let e : bench (queueOf (s .words)) (s .used) (s .log) ≡ l .bench = benches (ap queueOf (l .words) ∙ queue-again (l .bench .queue) (i .sized)) (l .used) (l .log) in
+    let m = logged-is (s .words) sound (s .log) (s .used) c in
+    let b : Bench = bench (queueOf (s .words)) (s .used) (s .log) in
+    record {
+      bench = called b (callOf (s .words) c);
+      history = calls (subst (λ (x : Bench). History st x) (sym e) (l .history)) (callOf (s .words) c) (sym (m .3) ∙ h);
+      words = m .0;
+      log = m .1;
+      used = m .2;
+    }
+
+-- of the log that recorded calls left the reader says: good, all the rows, and the record that the words encode
+pub recorder-read : (o : Opening) (memory : List ℕ) (s : Session) → Recorder o memory s → (r : Reading) → ReadsAs o (usedWords s) r
+    → (r .answer ≡ Read.Good (s .used)) × (wordsOf (r .queue) ≡ s .words)
+recorder-read o memory s w r a =
+    let l : Lived o memory s = lived o memory s w in
+    let e : usedWords s ≡ wordsWritten (l .bench) = ap (λ (n : ℕ). take (n * 5) (s .log)) (l .used) ∙ ap (take (l .bench .used * 5)) (l .log) in
+    let g = history-read (record { opening = o; memory = memory }) (l .bench) (l .history) r (subst (λ (x : List ℕ). ReadsAs o x r) e a) in (
+      ap (λ (x : Reading). x .answer) g ∙ ap Read.Good (sym (l .used)),
+      ap (λ (x : Reading). wordsOf (x .queue)) g ∙ sym (l .words),
+    )
+
+-- so the reader for C, lent any words for its queue, leaves the very same words there
+pub read-back-same : (kind domain first : ℕ) (bindings memory : List ℕ) (s : Session) → kind ≤ 1 → Recorder (openingBy kind domain first bindings) memory s
+    → (ws : List ℕ) (x : Exported) → ReadOn ws kind domain first bindings (usedWords s) x → (x .result ≡ done) × (x .words ≡ s .words)
+read-back-same kind domain first bindings memory s k w ws x (noKind l) = absurd (omega arith)
+read-back-same kind domain first bindings memory s k w ws x (readBack r l a) =
+    let g = recorder-read (openingBy kind domain first bindings) memory s w r a in
+    subst (λ (y : Read). (readSaid y (wordsOf (r .queue)) .result ≡ done) × (readSaid y (wordsOf (r .queue)) .words ≡ s .words)) (sym (g .0)) (refl, g .1)
