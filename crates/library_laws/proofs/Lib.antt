@@ -1,3 +1,4 @@
 pub mod Sounds
 pub mod OneAnswer
 pub mod Says
+pub mod Carried

@@ -1,2 +1,3 @@
 pub mod CallWords
+pub mod Tickets
 pub mod Values
