@@ -28,10 +28,10 @@ extern "C" {
 #define GULBERZAN_VERSION_MAJOR 1
 #define GULBERZAN_VERSION_MINOR 0
 
-/* What a compiler may know: which pointers are never null (by their places, from 1), that a call neither throws nor calls back, and,
+/* What a compiler may know: which pointers are never null (by their places, from 1), that a call does not throw, and,
    of a call that can be refused, that its result is to be looked at. */
 #if defined(__GNUC__) || defined(__clang__)
-#define GULBERZAN_CALL(...) __attribute__((nothrow, leaf, nonnull(__VA_ARGS__)))
+#define GULBERZAN_CALL(...) __attribute__((nothrow, nonnull(__VA_ARGS__)))
 #define GULBERZAN_LOOK __attribute__((warn_unused_result))
 #else
 #define GULBERZAN_CALL(...)
