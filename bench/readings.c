@@ -71,9 +71,9 @@ static uint64_t plain_call(enum next next, struct plain_queue *queue, struct pla
 /* The call that is made on both sides, each time one that writes a row. */
 static enum next choose(const uint64_t *queue, size_t used, struct plan *plan) {
     uint64_t answer[GULBERZAN_ANSWER_WORDS];
-    gulberzan_is_empty(queue, answer);
+    uint64_t asked = gulberzan_is_empty(queue, answer);
     enum next next = next_of(queue, used, plan);
-    if (next == NEXT_POP && answer[GULBERZAN_CASE] == GULBERZAN_CASE_YES) {
+    if (next == NEXT_POP && asked == GULBERZAN_OK && answer[GULBERZAN_CASE] == GULBERZAN_CASE_YES) {
         next = NEXT_REGISTER;
     }
     if (next == NEXT_FAIL) {

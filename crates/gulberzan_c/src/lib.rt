@@ -1,6 +1,7 @@
 // The public calls of a queue for C: the queue is words that the caller lends, checked on the way in and changed in place.
 mod attempts;
 mod births;
+mod naming;
 mod openings;
 mod questions;
 mod reading;

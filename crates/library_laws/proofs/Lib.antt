@@ -2,3 +2,4 @@ pub mod Sounds
 pub mod OneAnswer
 pub mod Says
 pub mod Sessions
+pub mod Carried

@@ -111,7 +111,7 @@ read-sound o log = let f = read-fits o log (readFrom (openedAs o) log) (reads-fr
 session-step : (s : Session) → isSound (s .words) ≡ true → (c : LibraryCall) → isSound (sessionAfter s c .words) ≡ true
 session-step s h (opensScope domain first) = scope-sound domain first
 session-step s h (opensIterator domain first bindings) = iterator-sound domain first bindings
-session-step s h (LibraryCall.calls c) = sound-after (s .words) h c
+session-step s h (LibraryCall.makes c) = sound-after (s .words) h c
 session-step s h (LibraryCall.records c) = logged-sound s h c
 session-step s h (LibraryCall.reads kind domain first bindings log) =
     if-by (λ (t : Session). isSound (t .words) ≡ true) (ltb 1 kind) _ _ (λ _. h)

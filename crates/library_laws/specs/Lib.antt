@@ -1,3 +1,4 @@
 pub mod CallWords
+pub mod Tickets
 pub mod Values
 pub mod Sessions

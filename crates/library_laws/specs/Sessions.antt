@@ -41,7 +41,7 @@ loggedTo r = session (r .call .words) (r .log) (r .used)
 pub data LibraryCall : Type 0 where
   opensScope : ℕ → ℕ → LibraryCall
   opensIterator : ℕ → ℕ → List ℕ → LibraryCall
-  calls : WordCall → LibraryCall
+  makes : WordCall → LibraryCall
   records : WordCall → LibraryCall
   reads : ℕ → ℕ → ℕ → List ℕ → List ℕ → LibraryCall
 
@@ -52,7 +52,7 @@ openingBy kind domain first bindings = openingOf (headingOf (kindAt kind) domain
 abbrev pub sessionAfter : Session → LibraryCall → Session
 sessionAfter s (opensScope domain first) = session (wordsOf (scopeOpened domain first .queue)) (s .log) (s .used)
 sessionAfter s (opensIterator domain first bindings) = session (wordsOf (iteratorOpened domain first bindings .queue)) (s .log) (s .used)
-sessionAfter s (calls c) = session (wordsAfter (s .words) c) (s .log) (s .used)
+sessionAfter s (makes c) = session (wordsAfter (s .words) c) (s .log) (s .used)
 sessionAfter s (records c) = loggedTo (loggedBy s c)
 sessionAfter s (reads kind domain first bindings log) =
     if ltb 1 kind then s else session (wordsOf (readFrom (openedAs (openingBy kind domain first bindings)) log .queue)) (s .log) (s .used)

@@ -24,6 +24,7 @@ pub use openings::Opened;
 pub use openings::blank;
 pub use openings::iterator;
 pub use openings::open_as;
+pub use openings::places_of;
 pub use openings::scope;
 pub use record::Kind;
 pub use record::Queue;

@@ -28,7 +28,7 @@ pub struct OpenAnswer {
 }
 
 // The given bindings in their 16 places.
-fn places_of(given: &[u64]) -> [u64; 16]
+pub fn places_of(given: &[u64]) -> [u64; 16]
     requires { ⌜ length (now given) ≤ 16 ⌝ }
     ensures { λ r. ⌜ r ≡ bindingPlaces (now (given .entry)) ⌝ }
 {

@@ -1,13 +1,13 @@
 -- The openings, word by word
 use Prim.Native.Nat.{ℕ, _+_, _<_, _≤_}
-use mathlib.Core.Path.{_≡_, sym, ap, _∙_}
+use mathlib.Core.Path.{_≡_, ap, _∙_}
 use mathlib.Core.List.{List, [], _∷_, _++_, append-assoc}
 use native.Mathlib.Omega.{arith}
 use native.Mathlib.Numerals.{add-one}
-use lib.ListN.{length, getD, take, drop, set, replicate}
-use lib.Seq.{paste, paste-suc, drop-drop, drop-append-le}
+use lib.ListN.{length, getD, take, drop, set}
+use lib.Seq.{paste, paste-suc, take-length}
 use Rattle.queue_record.specs.Openings.{bindingPlaces, iteratorOf}
-use Rattle.queue_record.proofs.Padding.{filled-all}
+use Rattle.queue_record.proofs.Padding.{kept-length}
 use Rattle.queue_words.specs.Layout.{atBindings, wordCount}
 use Rattle.queue_words.specs.Words.{wordsOf}
 use Rattle.queue_words.specs.InPlace.{iteratorIn, runPut}
@@ -26,16 +26,13 @@ module _ (domain first : ℕ) (given : List ℕ) (few : length given ≤ 16) whe
   abbrev base : List ℕ
   base = iteratorIn domain first (length given)
 
-  behind : take (length given) given ++ drop (atBindings + length given) base ≡ bindingPlaces given ++ (length given ∷ [])
-  behind =
-      let z : 0 + length given ≡ length given = omega arith in
-      let zeros : List ℕ = replicate 16 0 in
-      ap (λ (r : List ℕ). take (length given) given ++ r) (sym (drop-drop (length given) atBindings base)
-      ∙ drop-append-le (length given) zeros (length given ∷ []) (omega arith))
-      ∙ (sym (append-assoc (take (length given) given) (drop (length given) zeros) (length given ∷ []))
-      ∙ ap (λ (r : List ℕ). r ++ (length given ∷ [])) (ap (λ (n : ℕ). take (length given) given ++ drop n zeros) (sym z)
-      ∙ filled-all given (length given) few (omega arith) (omega arith)))
+  abbrev places : List ℕ
+  places = bindingPlaces given
 
-  pub iterator-words : runPut base atBindings given ≡ wordsOf (iteratorOf domain first given)
+  behind : take (length places) places ++ drop (atBindings + length places) base ≡ places ++ (length given ∷ [])
+  behind = ap (λ (r : List ℕ). r ++ drop (atBindings + length places) base) (take-length places)
+      ∙ ap (λ (n : ℕ). places ++ drop (atBindings + n) base) (kept-length given few)
+
+  pub iterator-words : runPut base atBindings places ≡ wordsOf (iteratorOf domain first given)
   unfolding runPut iteratorOf wordsOf
-  iterator-words = append-assoc (take atBindings base) (take (length given) given) (drop (atBindings + length given) base) ∙ ap (λ (r : List ℕ). take atBindings base ++ r) behind
+  iterator-words = append-assoc (take atBindings base) (take (length places) places) (drop (atBindings + length places) base) ∙ ap (λ (r : List ℕ). take atBindings base ++ r) behind

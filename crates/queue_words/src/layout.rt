@@ -55,3 +55,6 @@ pub const GIVEN_DOMAIN: usize = 0;
 pub const GIVEN_TOKEN: usize = 1;
 
 pub const GIVEN_ATTEMPT: usize = 2;
+
+// An iterator's bindings by value, in their places.
+pub type BindingWords = [u64; 16];

@@ -9,7 +9,7 @@ ghost use lib.ListN.{length};
 ghost use Rattle.queue_record.specs.Record.{withPhase};
 ghost use Rattle.queue_record.specs.Openings.{scopeOf, blank};
 ghost use Rattle.queue_record.specs.declared.record.Selection.the-variants.{Free, Of};
-ghost use Rattle.queue_words.specs.Layout.{wordCount};
+ghost use Rattle.queue_words.specs.Layout.{atBindings, wordCount};
 ghost use Rattle.queue_words.specs.Words.{queueOf, wordsOf, isSound};
 ghost use Rattle.queue_words.specs.Exported.{exported};
 ghost use Rattle.queue_words.specs.InPlace.{setSelection, yesWord, saidIn, iteratorIn, runPut};
@@ -76,17 +76,6 @@ pub fn put_blank(queue: &mut Words)
     put_scope(queue, 0, 0);
 }
 
-// An iterator's words but for its bindings: Idle is 0.
-pub fn put_iterator(queue: &mut Words, domain: u64, first: u64, bound: u64)
-    ensures { λ _. ⌜ now (queue .exit) ≡ iteratorIn domain first bound ⌝ }
-{
-    *queue = [0u64; WORDS];
-    queue[KIND] = 1;
-    queue[DOMAIN] = domain;
-    queue[NEXT] = first;
-    queue[BOUND] = bound;
-}
-
 // The values one behind the other from a place on.
 pub fn put_run(queue: &mut Words, from: usize, values: &[u64])
     requires { ⌜ (length (now queue) ≡ wordCount) × (from + length (now values) ≤ wordCount) ⌝ }
@@ -97,4 +86,16 @@ pub fn put_run(queue: &mut Words, from: usize, values: &[u64])
         queue[from + i] = values[i];
         i += 1;
     }
+}
+
+// An iterator's words: Idle is 0. The bindings come by value, so that a list inside the queue was read before it is written over.
+pub fn put_iterator(queue: &mut Words, domain: u64, first: u64, places: BindingWords, bound: u64)
+    ensures { λ _. ⌜ now (queue .exit) ≡ runPut (iteratorIn domain first bound) atBindings places ⌝ }
+{
+    *queue = [0u64; WORDS];
+    queue[KIND] = 1;
+    queue[DOMAIN] = domain;
+    queue[NEXT] = first;
+    queue[BOUND] = bound;
+    put_run(queue, BINDINGS, &places[..]);
 }

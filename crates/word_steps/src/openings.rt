@@ -1,11 +1,11 @@
 // The openings on words: every word is written.
 use queue_record::Heading;
 use queue_record::Kind;
+use queue_record::places_of;
 use queue_record::refusal::TOO_MANY_BINDINGS;
 use queue_words::layout::*;
 use queue_words::put_blank;
 use queue_words::put_iterator;
-use queue_words::put_run;
 use queue_words::put_scope;
 ghost use Rattle.queue_record.specs.Openings.{openingOf, scopeOpened, iteratorOpened, openedAs};
 ghost use Rattle.queue_words.specs.Exported.{OpensOn};
@@ -17,6 +17,7 @@ pub fn open_scope(queue: &mut Words, domain: u64, first: u64) -> u64
     0
 }
 
+// The bindings are copied before the first store: they may lie inside the queue.
 pub fn open_iterator(queue: &mut Words, domain: u64, first: u64, bindings: &[u64]) -> u64
     ensures { λ r. ⌜ OpensOn (iteratorOpened domain first (now (bindings .entry))) r (now (queue .exit)) ⌝ }
 {
@@ -25,8 +26,8 @@ pub fn open_iterator(queue: &mut Words, domain: u64, first: u64, bindings: &[u64
         put_blank(queue);
         return TOO_MANY_BINDINGS;
     }
-    put_iterator(queue, domain, first, bound);
-    put_run(queue, BINDINGS, bindings);
+    let places = places_of(bindings);
+    put_iterator(queue, domain, first, places, bound);
     0
 }
 

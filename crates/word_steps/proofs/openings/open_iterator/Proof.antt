@@ -6,7 +6,7 @@ use lib.ListN.{length}
 use native.Mathlib.Omega.{arith}
 use borrow.Author.Tests.{lt-ltb, le-ltb}
 use Rattle.choice.proofs.Ways.{hit, miss}
-use Rattle.queue_record.specs.Openings.{iteratorOpened}
+use Rattle.queue_record.specs.Openings.{bindingPlaces, iteratorOpened}
 use Rattle.queue_record.specs.declared.openings.OpenAnswer.{OpenAnswer}
 use Rattle.queue_words.specs.Layout.{atBindings}
 use Rattle.queue_words.specs.Words.{wordsOf}
@@ -28,13 +28,14 @@ no-refusal : (c : tie.Else1) → openNumber (opened c .answer) ≡ 0
 unfolding iteratorOpened
 no-refusal c = ap (λ (r : OpenAnswer). openNumber (r .answer)) (miss _ (le-ltb _ _ (c .if1 .left)))
 
-stored : (c : tie.Else1) → runPut (iteratorIn (c .before .before .args .domain) (c .before .before .args .first) (length (given c))) atBindings (given c) ≡ wordsOf (opened c .queue)
+stored : (c : tie.Else1)
+    → runPut (iteratorIn (c .before .before .args .domain) (c .before .before .args .first) (length (given c))) atBindings (bindingPlaces (given c)) ≡ wordsOf (opened c .queue)
 unfolding iteratorOpened
 stored c = iterator-words (c .before .before .args .domain) (c .before .before .args .first) (given c) (c .if1 .left)
     ∙ sym (ap (λ (r : OpenAnswer). wordsOf (r .queue)) (miss _ (le-ltb _ _ (c .if1 .left))))
 
-abbrev toElse : tie.After-put-run → tie.Else1
-toElse c = c .before .before .before .before
+abbrev toElse : tie.After-put-iterator → tie.Else1
+toElse c = c .before .before .before
 
 pub open-iterator-spec : {M : Type 1} → statement M
 unfolding iteratorOpened
@@ -46,9 +47,11 @@ open-iterator-spec =
       number = sym (ap (λ (r : OpenAnswer). openNumber (r .answer)) (hit _ (lt-ltb _ _ (c .before .before .if1 .taken))));
       left = (c .put-blank .ensures) ∙ sym (ap (λ (r : OpenAnswer). wordsOf (r .queue)) (hit _ (lt-ltb _ _ (c .before .before .if1 .taken))));
     })
+    (λ c κs. c .if1 .left)
     (λ c κs. search needs)
-    (λ c κs. (ap length (c .before .put-iterator .ensures), omega (arith, (c .before .before .before .if1 .left))))
     (λ c. record {
       number = sym (no-refusal (toElse c));
-      left = (c .put-run .ensures) ∙ (ap (λ (l : List ℕ). runPut l atBindings (given (toElse c))) (c .before .before .put-iterator .ensures) ∙ stored (toElse c));
+      left =
+          let base = iteratorIn (toElse c .before .before .args .domain) (toElse c .before .before .args .first) (length (given (toElse c))) in
+          (c .put-iterator .ensures) ∙ (ap (λ (l : List ℕ). runPut base atBindings l) (c .before .before .places-of .ensures) ∙ stored (toElse c));
     }))
