@@ -5,11 +5,12 @@
    Memory. All of it is the caller's, 64-bit words aligned as a uint64_t: GULBERZAN_QUEUE_WORDS for a queue, and so on. The library
    allocates nothing, keeps no pointer between calls, and has no memory of its own.
 
-   Null. A pointer is not null. Only that of a list or a log of no words (count or words is 0) may be: nothing is read behind it.
+   Null. A pointer is not null. Only that of a list or a log of no words (count or words is 0) may be: nothing is read or written there.
 
    Overlap. What a call writes (queue, answer, log, *used, text) lies apart: no two of a call's share a word. What it only reads (a
-   ticket, bindings, a target) may lie anywhere, inside the call's own queue and answer too: all of it is read before the first word is
-   written. So the ticket may be `answer + GULBERZAN_WORK_DOMAIN` as pop left it, or `queue + GULBERZAN_TICKET_DOMAIN`, and the bindings
+   ticket, bindings, a target) may lie anywhere, inside what the call writes too: all of it is read before the first word is written,
+   which is seen in the code and tried, since the proofs give each list memory of its own. So the ticket may be
+   `answer + GULBERZAN_WORK_DOMAIN` as pop left it, or `queue + GULBERZAN_TICKET_DOMAIN`, and the bindings
    `queue + GULBERZAN_FIRST_BINDING`. The log that gulberzan_read reads lies apart from what it writes.
 
    Threads. One thread at a time on one queue, its log, its used count and its answer. Calls on other memory may run at the same time, and

@@ -1,4 +1,4 @@
-/* overlap.c: inputs that lie inside the answer or the queue. Each call is made twice from the same state, with its input copied to
+/* overlap.c: inputs that lie inside the queue, the answer, the log or the used count. Each call is made twice from the same state, with its input copied to
    memory of its own and with its input where it lies, and must leave the same words; and both idioms that one would write, with the
    ticket from pop's answer and from the queue's own words, are followed to the log's row and through the reader. */
 #include <stdio.h>
@@ -82,27 +82,36 @@ static void read_scope(struct bench *b, const uint64_t *bindings, size_t count) 
     b->result = gulberzan_read(b->queue, GULBERZAN_SCOPE, 9, 4, bindings, count, b->log, b->used * GULBERZAN_ROW_WORDS, b->answer);
 }
 
-/* The input's place as it lies in one of two benches. */
-static void compare(const char *what, call make, const struct bench *state, const char *where, size_t place, size_t count) {
+/* What an input may lie inside. */
+static const struct part {
+    const char *name;
+    size_t offset, length;
+} parts[] = {
+    {"queue", offsetof(struct bench, queue), GULBERZAN_QUEUE_WORDS},
+    {"answer", offsetof(struct bench, answer), GULBERZAN_ANSWER_WORDS},
+    {"log", offsetof(struct bench, log), ROWS * GULBERZAN_ROW_WORDS},
+    {"used count", offsetof(struct bench, used), 1},
+};
+
+/* The two benches differ in where the input lies, and in nothing else. */
+static void compare(const char *what, call make, const struct bench *state, const struct part *part, size_t place, size_t count) {
     static struct bench apart, inside;
     static uint64_t copy[GULBERZAN_QUEUE_WORDS];
     apart = inside = *state;
-    uint64_t *words = strcmp(where, "queue") ? inside.answer : inside.queue;
-    memcpy(copy, words + place, count * sizeof copy[0]);
+    const uint64_t *input = (const uint64_t *)((const char *)&inside + part->offset) + place;
+    memcpy(copy, input, count * sizeof copy[0]);
     make(&apart, copy, count);
-    make(&inside, words + place, count);
-    if (memcmp(&apart, &inside, sizeof apart)) fail(what, where, place, count);
+    make(&inside, input, count);
+    if (memcmp(&apart, &inside, sizeof apart)) fail(what, part->name, place, count);
     tried++;
 }
 
 /* At every place where the input fits. */
 static void compare_all(const char *what, call make, const struct bench *state, size_t least, size_t most) {
-    for (size_t count = least; count <= most; count++) {
-        for (size_t place = 0; place + count <= GULBERZAN_QUEUE_WORDS; place++)
-            compare(what, make, state, "queue", place, count);
-        for (size_t place = 0; place + count <= GULBERZAN_ANSWER_WORDS; place++)
-            compare(what, make, state, "answer", place, count);
-    }
+    for (size_t which = 0; which < sizeof parts / sizeof parts[0]; which++)
+        for (size_t count = least; count <= most; count++)
+            for (size_t place = 0; place + count <= parts[which].length; place++)
+                compare(what, make, state, &parts[which], place, count);
 }
 
 static void compare_calls(const struct bench *state) {
@@ -175,6 +184,6 @@ static void follow(int from_queue, int recorded) {
 int main(void) {
     for (int which = 0; which < 4; which++) follow(which & 1, which >> 1);
     compare_states();
-    printf("%lu calls with their input inside the answer or the queue leave the same words\n", tried);
+    printf("%lu calls with their input inside what they write leave the same words\n", tried);
     return 0;
 }
