@@ -1,0 +1,123 @@
+-- The three demands hold, and the library's: each field by the law that says it
+use mathlib.Core.Path.{_≡_}
+use mathlib.Core.Bool.{false}
+use mathlib.Core.List.{[]}
+use lib.ListN.{length}
+use Rattle.queue_record.specs.Openings.{openedAs}
+use Rattle.queue_record.specs.declared.record.Queue.{Queue}
+use Rattle.queue_record.proofs.Opened.{opened-well-formed}
+use Rattle.queue_questions.specs.Questions.{matches}
+use Rattle.cleanup_queue.specs.Orders.{firstDue, RefusedAs, brokenOnly}
+use Rattle.cleanup_queue.proofs.Numbers.{opening-number, register-number, land-number, pop-number, complete-number, retry-number, questions-number}
+use Rattle.cleanup_queue.proofs.Numbers.{admit-number, end-number, cancel-number, domain-number}
+use Rattle.cleanup_queue.proofs.Said.{opening-refused, register-refused, land-refused, pop-refused, complete-refused, retry-refused, admit-refused}
+use Rattle.cleanup_queue.proofs.Said.{end-refused, cancel-refused}
+use Rattle.cleanup_queue.proofs.HandsOut.{pop-exactly, pop-hands}
+use Rattle.cleanup_queue.proofs.Upstream.{waiting-rises}
+use Rattle.cleanup_queue.proofs.Waits.{register-appends, land-appends, fresh-pop-drops}
+use Rattle.cleanup_queue.proofs.Finish.{finish-means, means-finish, finish-with-bindings}
+use Rattle.cleanup_queue.proofs.Keeps.{run-keeps}
+use Rattle.cleanup_queue.proofs.Exactly.{opened-parts, attempts-exactly, tokens-exactly}
+use Rattle.cleanup_log.specs.RecordedOrders.{recordedOrder}
+use Rattle.cleanup_log.specs.Entries.{entryOf}
+use Rattle.cleanup_log.proofs.Changes.{call-changes}
+use Rattle.cleanup_log.proofs.RecordedNumbers.{register-recorded-number, land-recorded-number, pop-recorded-number, complete-recorded-number}
+use Rattle.cleanup_log.proofs.RecordedNumbers.{retry-recorded-number}
+use Rattle.cleanup_log.proofs.RecordedNumbers.{admit-recorded-number, end-recorded-number, cancel-recorded-number}
+use Rattle.log_reader.proofs.ReaderLanguage.{reader-language}
+use Rattle.log_reader.proofs.Unique.{reads-one}
+use Rattle.history.specs.Histories.{Bench, numberOf}
+use Rattle.history.specs.Benches.{BenchCall, callOn}
+use Rattle.history.proofs.Written.{refused-stays}
+use Rattle.history.proofs.Accepts.{history-read, bad-read}
+use Rattle.history.proofs.Demand.{same-record}
+use Rattle.history.proofs.WordLogs.{word-logs}
+use Rattle.library_laws.proofs.Sessions.{session-sound, read-back-same}
+use Rattle.demands.specs.Demands.{saidBy, orderOf, givenTo, leftBy, QueueQuestion, asksEmpty, asksIssued, asksPending, asksSettled}
+use Rattle.demands.specs.Demands.{asksCancelled, asksFailed, asksRetry, asksFinish, asksDomain, toldTo}
+use Rattle.demands.specs.Demands.{Demand1, Demand2, Demand3, LibraryDemand}
+
+one-number : (q : Queue) (c : BenchCall) → saidBy q c .number ≡ firstDue (orderOf q c)
+one-number q (BenchCall.register n) = register-number q n
+one-number q (BenchCall.land n) = land-number q n
+one-number q BenchCall.pop = pop-number q
+one-number q (BenchCall.complete t o k) = complete-number q t o k
+one-number q BenchCall.retry = retry-number q
+one-number q (BenchCall.admit target) = admit-number q (matches q target)
+one-number q BenchCall.admitWithout = admit-number q false
+one-number q BenchCall.end = end-number q
+one-number q BenchCall.cancel = cancel-number q
+
+one-number-asked : (q : Queue) (a : QueueQuestion) → toldTo q a .number ≡ firstDue (brokenOnly q)
+one-number-asked q asksEmpty = questions-number q [] .0
+one-number-asked q asksIssued = questions-number q [] .1
+one-number-asked q asksPending = questions-number q [] .2
+one-number-asked q asksSettled = questions-number q [] .3
+one-number-asked q asksCancelled = questions-number q [] .4
+one-number-asked q asksFailed = questions-number q [] .5
+one-number-asked q asksRetry = questions-number q [] .6
+one-number-asked q (asksFinish target) = questions-number q target .7
+one-number-asked q asksDomain = domain-number q
+
+one-number-recorded : (b : Bench) (c : BenchCall)
+    → numberOf b (callOn (b .queue) c) ≡ firstDue (recordedOrder (length (b .log)) (b .used) (orderOf (b .queue) c) (entryOf (b .queue) (callOn (b .queue) c) .changed))
+one-number-recorded b (BenchCall.register n) = register-recorded-number (b .queue) (b .log) (b .used) n
+one-number-recorded b (BenchCall.land n) = land-recorded-number (b .queue) (b .log) (b .used) n
+one-number-recorded b BenchCall.pop = pop-recorded-number (b .queue) (b .log) (b .used)
+one-number-recorded b (BenchCall.complete t o k) = complete-recorded-number (b .queue) (b .log) (b .used) t o k
+one-number-recorded b BenchCall.retry = retry-recorded-number (b .queue) (b .log) (b .used)
+one-number-recorded b (BenchCall.admit target) = admit-recorded-number (b .queue) (b .log) (b .used) (matches (b .queue) target)
+one-number-recorded b BenchCall.admitWithout = admit-recorded-number (b .queue) (b .log) (b .used) false
+one-number-recorded b BenchCall.end = end-recorded-number (b .queue) (b .log) (b .used)
+one-number-recorded b BenchCall.cancel = cancel-recorded-number (b .queue) (b .log) (b .used)
+
+nothing-changed : (q : Queue) (c : BenchCall) → RefusedAs q (givenTo c) (saidBy q c) (leftBy q c)
+nothing-changed q (BenchCall.register n) = register-refused q n
+nothing-changed q (BenchCall.land n) = land-refused q n
+nothing-changed q BenchCall.pop = pop-refused q
+nothing-changed q (BenchCall.complete t o k) = complete-refused q t o k
+nothing-changed q BenchCall.retry = retry-refused q
+nothing-changed q (BenchCall.admit target) = admit-refused q (matches q target)
+nothing-changed q BenchCall.admitWithout = admit-refused q false
+nothing-changed q BenchCall.end = end-refused q
+nothing-changed q BenchCall.cancel = cancel-refused q
+
+pub demand1 : Demand1
+demand1 = record {
+  oneNumber = one-number;
+  oneNumberAsked = one-number-asked;
+  oneNumberOpening = opening-number;
+  oneNumberRecorded = one-number-recorded;
+  nothingChanged = nothing-changed;
+  blankOpening = opening-refused;
+  nothingChangedRecorded = λ b c. refused-stays b (callOn (b .queue) c);
+}
+
+pub demand2 : Demand2
+demand2 = record {
+  handsOutExactly = pop-exactly;
+  handsOutThis = pop-hands;
+  waitingRises = waiting-rises;
+  birthWaitsLast = λ q z n. (register-appends q n z, land-appends q n z);
+  popTakesLast = fresh-pop-drops;
+  finishMeans = λ q target. (finish-means q target, means-finish q target);
+  finishHappens = finish-with-bindings;
+  openedAsGiven = opened-parts;
+  staysSound = λ o cs. run-keeps (openedAs o .queue) cs (opened-well-formed o);
+  attemptsExactly = attempts-exactly;
+  tokensExactly = tokens-exactly;
+}
+
+pub demand3 : Demand3
+demand3 = record {
+  rowsNameChanges = call-changes;
+  readerAccepts = reader-language;
+  oneReading = reads-one;
+  oneSet = word-logs;
+  endState = history-read;
+  stateBefore = bad-read;
+  oneState = same-record;
+}
+
+pub library-demand : LibraryDemand
+library-demand = record { neverBroken = session-sound; sameWords = read-back-same }
