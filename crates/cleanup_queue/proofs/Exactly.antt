@@ -10,7 +10,7 @@ use lib.Dec.{eqb}
 use lib.ListN.{length}
 use Rattle.choice.proofs.Ways.{if-by, and-right}
 use Rattle.queue_record.specs.WellFormed.{wellFormed}
-use Rattle.queue_record.specs.Openings.{Opening, headingOf, openingOf, scopeOf, iteratorOf, openedBy, openedAs}
+use Rattle.queue_record.specs.Openings.{Opening, headingOf, openingOf, opened, keptBindings, scopeOf, iteratorOf, openedBy, openedAs}
 use Rattle.queue_record.specs.declared.record.Kind.{Kind}
 use Rattle.queue_record.specs.declared.record.Kind.the-variants.{Scope, Iterator}
 use Rattle.queue_record.specs.declared.record.Ticket.{Ticket}
@@ -30,7 +30,7 @@ use Rattle.queue_stages.specs.Stages.{admitted, ended, cancelledBy}
 use Rattle.queue_stages.specs.declared.stages.StageAnswer.{StageAnswer}
 use Rattle.queue_stages.specs.declared.stages.CancelAnswer.{CancelAnswer}
 use Rattle.cleanup_queue.specs.Runs.{Call, register, land, pop, complete, retry, admit, end, cancel, after, afterAll, attemptOf, handedBy, attempts, tokensBornBy, tokens, countedFrom, Counts}
-use Rattle.cleanup_queue.specs.Parts.{OpenedParts}
+use Rattle.cleanup_queue.specs.Parts.{startPhase, OpenedParts}
 use Rattle.cleanup_queue.proofs.ByCase.{register-by, land-by, pop-by, complete-by, retry-by}
 use Rattle.cleanup_queue.proofs.Keeps.{run-keeps}
 use Rattle.cleanup_queue.proofs.Rises.{comingBy, coming, fresh-comes, ready-comes, step-by}
@@ -131,10 +131,10 @@ run-counts q i cs =
     record { exactly = m .0; below = omega arith }
 
 -- ---- from an opening
-parts-by : (k : Kind) (domain first : ℕ) (bindings : List ℕ) → openedBy k domain first bindings .answer ≡ Opened.Open
-    → OpenedParts (openingOf (headingOf k domain first) bindings) (openedBy k domain first bindings .queue)
-unfolding scopeOf iteratorOf
-parts-by Scope domain first bindings e = record {
+-- of either kind
+started-parts : (k : Kind) (domain first : ℕ) (bindings : List ℕ)
+    → OpenedParts (openingOf (headingOf k domain first) bindings) (opened k (startPhase k) domain first (keptBindings k bindings))
+started-parts k domain first bindings = record {
   kind = refl;
   domain = refl;
   next = refl;
@@ -147,20 +147,14 @@ parts-by Scope domain first bindings e = record {
   bindings = refl;
   bound = refl;
 }
+
+parts-by : (k : Kind) (domain first : ℕ) (bindings : List ℕ) → openedBy k domain first bindings .answer ≡ Opened.Open
+    → OpenedParts (openingOf (headingOf k domain first) bindings) (openedBy k domain first bindings .queue)
+unfolding scopeOf iteratorOf
+parts-by Scope domain first bindings e = started-parts Scope domain first bindings
 parts-by Iterator domain first bindings e =
-    subst (λ (q : Queue). OpenedParts (openingOf (headingOf Iterator domain first) bindings) q) (sym (iterator-open domain first bindings e)) (record {
-      kind = refl;
-      domain = refl;
-      next = refl;
-      slots = refl;
-      count = refl;
-      selection = refl;
-      failed = refl;
-      issued = refl;
-      phase = refl;
-      bindings = refl;
-      bound = refl;
-    })
+    subst (λ (q : Queue). OpenedParts (openingOf (headingOf Iterator domain first) bindings) q) (sym (iterator-open domain first bindings e))
+    (started-parts Iterator domain first bindings)
 
 module _ (o : Opening) (unrefused : openedAs o .answer ≡ Opened.Open) where
   -- what an opening leaves, every part

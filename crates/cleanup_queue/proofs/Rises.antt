@@ -37,7 +37,7 @@ abbrev pub coming : Queue → ℕ
 coming q = comingBy (q .selection) (q .issued || q .failed) (q .next)
 
 -- nothing is handed out, and the same attempt comes next
-abbrev pub Waits : Queue → List ℕ → Queue → Type 0
+abbrev Waits : Queue → List ℕ → Queue → Type 0
 Waits q handed p = (handed ≡ []) × (coming p ≡ coming q)
 
 -- the attempt that came next is handed out, and a larger one comes next

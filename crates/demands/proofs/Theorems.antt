@@ -24,11 +24,12 @@ use Rattle.cleanup_log.proofs.Changes.{call-changes}
 use Rattle.cleanup_log.proofs.RecordedNumbers.{register-recorded-number, land-recorded-number, pop-recorded-number, complete-recorded-number}
 use Rattle.cleanup_log.proofs.RecordedNumbers.{retry-recorded-number}
 use Rattle.cleanup_log.proofs.RecordedNumbers.{admit-recorded-number, end-recorded-number, cancel-recorded-number}
+use Rattle.cleanup_log.proofs.RecordedNumbers.{register-recorded-returns, land-recorded-returns, complete-recorded-returns}
 use Rattle.log_reader.proofs.ReaderLanguage.{reader-language}
 use Rattle.log_reader.proofs.Unique.{reads-one}
 use Rattle.history.specs.Histories.{Bench, numberOf}
 use Rattle.history.specs.Benches.{BenchCall, callOn}
-use Rattle.history.proofs.Written.{refused-stays}
+use Rattle.history.proofs.Written.{refused-stays, goes}
 use Rattle.history.proofs.Accepts.{history-read, bad-read}
 use Rattle.history.proofs.Demand.{same-record}
 use Rattle.history.proofs.WordLogs.{word-logs}
@@ -91,6 +92,7 @@ demand1 = record {
   nothingChanged = nothing-changed;
   blankOpening = opening-refused;
   nothingChangedRecorded = λ b c. refused-stays b (callOn (b .queue) c);
+  givenBackRecorded = λ q log used. (register-recorded-returns q log used, land-recorded-returns q log used, complete-recorded-returns q log used);
 }
 
 pub demand2 : Demand2
@@ -111,6 +113,7 @@ demand2 = record {
 pub demand3 : Demand3
 demand3 = record {
   rowsNameChanges = call-changes;
+  rowIsWritten = λ b c fit room. goes b c (record { fits = fit; room = room });
   readerAccepts = reader-language;
   oneReading = reads-one;
   oneSet = word-logs;

@@ -1,5 +1,5 @@
 -- The three demands, a field for each sentence, over the definitions that the contracts of the public calls cite
-use Prim.Native.Nat.{ℕ, _≤_}
+use Prim.Native.Nat.{ℕ, _+_, _≤_}
 use mathlib.Core.Path.{_≡_}
 use mathlib.Core.Logic.{_↔_}
 use mathlib.Core.Bool.{true, false}
@@ -16,7 +16,9 @@ use Rattle.queue_record.specs.declared.openings.Opened.{Opened}
 use Rattle.queue_decisions.specs.Slots.{noMore}
 use Rattle.queue_births.specs.Births.{registered, landed}
 use Rattle.queue_steps.specs.Attempts.{popped, completed, retried}
+use Rattle.queue_births.specs.declared.births.Registered.{Registered}
 use Rattle.queue_steps.specs.declared.attempts.Popped.the-variants.{Work}
+use Rattle.queue_steps.specs.declared.attempts.Completed.{Completed}
 use Rattle.queue_stages.specs.Stages.{admitted, ended, cancelledBy}
 use Rattle.queue_questions.specs.Questions.{matches, isEmptyTold, isIssuedTold, isPendingTold, isSettledTold, isCancelledTold, hasFailedTold, canRetryTold, canFinishTold, domainTold}
 use Rattle.queue_questions.specs.declared.questions.Told.the-variants.{Yes}
@@ -25,7 +27,10 @@ use Rattle.cleanup_queue.specs.Orders.{Ground, firstDue, RefusedAs, openingOrde
 use Rattle.cleanup_queue.specs.Parts.{OpenedParts, Appends, Drops}
 use Rattle.cleanup_queue.specs.Promises.{handsOut, mayHandOut, HandedOut, Finishable}
 use Rattle.cleanup_queue.specs.Runs.{Call, after, afterAll, attempts, tokens, Rising, Counts}
-use Rattle.log_rows.specs.Rows.{rows}
+use Rattle.log_rows.specs.Rows.{rows, flat, written}
+use Rattle.log_rows.specs.Appending.{rowsFit, hasRoom}
+use Rattle.log_births.specs.Births.{registerRecorded, landRecorded}
+use Rattle.log_attempts.specs.Attempts.{completeRecorded}
 use Rattle.log_language.specs.Readings.{every}
 use Rattle.log_language.specs.FirstBad.{WordsBelong}
 use Rattle.log_reader.specs.Reader.{ReadsAs, readSays, reading, settingOf}
@@ -34,7 +39,7 @@ use Rattle.log_reader.specs.declared.reading.Read.{Read}
 use Rattle.log_reader.specs.declared.reading.Reading.{Reading}
 use Rattle.cleanup_log.specs.RecordedOrders.{recordedOrder}
 use Rattle.cleanup_log.specs.Entries.{entryOf}
-use Rattle.history.specs.Histories.{Bench, called, numberOf, Start, History, wordsWritten, rowsOf, openedQueue}
+use Rattle.history.specs.Histories.{Bench, bench, called, numberOf, Start, History, wordsWritten, rowsOf, openedQueue}
 use Rattle.history.specs.Fits.{isWord}
 use Rattle.history.specs.Benches.{BenchCall, callOn, WordOpening, LeftIn}
 use Rattle.queue_words.specs.Words.{isSound}
@@ -114,6 +119,9 @@ pub record Demand1 : Type 0 where
   pub nothingChanged : (q : Queue) (c : BenchCall) → RefusedAs q (givenTo c) (saidBy q c) (leftBy q c)
   pub blankOpening : (o : Opening) → RefusedAs blank [] (openedSays (openedAs o .answer)) (openedAs o .queue)
   pub nothingChangedRecorded : (b : Bench) (c : BenchCall) → (numberOf b (callOn (b .queue) c) ≡ done → ⊥) → called b (callOn (b .queue) c) ≡ b
+  pub givenBackRecorded : (q : Queue) (log : List ℕ) (used : ℕ) → ((n refusal given : ℕ) → registerRecorded q n log used .answer ≡ Registered.Refused refusal given → given ≡ n)
+      × ((n refusal given : ℕ) → landRecorded q n log used .answer ≡ Registered.Refused refusal given → given ≡ n)
+      × ((t : Ticket) (outcome kept refusal given : ℕ) → completeRecorded q t outcome kept log used .answer ≡ Completed.Refused refusal given → given ≡ kept)
 
 -- ---- demand 2: what the calls' equations come to
 pub record Demand2 : Type 0 where
@@ -139,6 +147,10 @@ pub record Demand2 : Type 0 where
 pub record Demand3 : Type 0 where
   -- a call writes its row exactly if it changes the queue
   pub rowsNameChanges : (q : Queue) (c : Call) → (entryOf q c .changed ≡ false → after q c ≡ q) × (entryOf q c .changed ≡ true → after q c ≡ q → ⊥)
+  -- and then, with room, it is accepted, and its row stands behind the used ones
+  pub rowIsWritten : (b : Bench) (c : Call) → rowsFit (length (b .log)) (b .used) ≡ true → hasRoom (length (b .log)) (b .used) ≡ true
+      → entryOf (b .queue) c .refusal ≡ done → entryOf (b .queue) c .changed ≡ true
+      → (numberOf b c ≡ done) × (called b c ≡ bench (after (b .queue) c) (b .used + 1) (written (b .log) (b .used) (flat (entryOf (b .queue) c .row))))
   -- the reader accepts a log exactly when it belongs, and one answer is right
   pub readerAccepts : (o : Opening) (log : List ℕ) (r : Reading) → ReadsAs o log r → (readSays (r .answer) .0 ≡ done) ↔ InLanguage o log
   pub oneReading : (o : Opening) (log : List ℕ) (r s : Reading) → ReadsAs o log r → ReadsAs o log s → r ≡ s

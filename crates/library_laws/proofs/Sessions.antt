@@ -4,10 +4,10 @@ use mathlib.Core.Path.{_≡_, refl, sym, ap, _∙_, subst}
 use mathlib.Core.Bool.{Bool, true, false, not}
 use mathlib.Core.List.{List, [], _∷_}
 use native.Mathlib.Omega.{arith}
-use borrow.Author.Tests.{eqb-true, eqb-false}
+use borrow.Author.Tests.{eqb-true, eqb-false, lt-ltb, le-ltb}
 use lib.Dec.{eqb, ltb}
 use lib.ListN.{take}
-use Rattle.choice.proofs.Ways.{miss, if-by, and-left}
+use Rattle.choice.proofs.Ways.{hit, miss, if-by, and-left}
 use Rattle.queue_record.specs.Record.{Sized}
 use Rattle.queue_record.specs.Refusals.{done}
 use Rattle.queue_record.specs.WellFormed.{wellFormed}
@@ -31,6 +31,7 @@ use Rattle.log_reader.specs.Walk.{readFrom}
 use Rattle.log_reader.specs.Reader.{endOf, ReadsAs, refusedOpening, badAt, goodLog}
 use Rattle.log_reader.specs.declared.reading.Read.{Read}
 use Rattle.log_reader.proofs.Rightly.{reads-from}
+use Rattle.log_reader.proofs.Unique.{reads-one}
 use Rattle.log_reader.specs.declared.reading.Reading.{Reading}
 use Rattle.queue_words.specs.Words.{word, ticketOf, queueOf, wordsOf, encodes, isSound}
 use Rattle.queue_words.specs.Exported.{Exported, bornSaid, popSaid, completeSaid, retrySaid, toldSaid, cancelSaid}
@@ -108,6 +109,10 @@ read-fits o log r (goodLog e b) = end-fits (rows log) (openedAs o .queue) (opene
 read-sound : (o : Opening) (log : List ℕ) → isSound (wordsOf (readFrom (openedAs o) log .queue)) ≡ true
 read-sound o log = let f = read-fits o log (readFrom (openedAs o) log) (reads-from o log) in record-sound (readFrom (openedAs o) log .queue) (f .1) (f .0)
 
+said-words : (a : Read) (ws : List ℕ) → readSaid a ws .words ≡ ws
+said-words (Read.Good n) ws = refl
+said-words (Read.Refused n place) ws = refl
+
 session-step : (s : Session) → isSound (s .words) ≡ true → (c : LibraryCall) → isSound (sessionAfter s c .words) ≡ true
 session-step s h (opensScope domain first) = scope-sound domain first
 session-step s h (opensIterator domain first bindings) = iterator-sound domain first bindings
@@ -116,6 +121,16 @@ session-step s h (LibraryCall.records c) = logged-sound s h c
 session-step s h (LibraryCall.reads kind domain first bindings log) =
     if-by (λ (t : Session). isSound (t .words) ≡ true) (ltb 1 kind) _ _ (λ _. h)
     (λ _. read-sound (openingBy kind domain first bindings) log)
+
+-- what a session's reader leaves is what the contract of the reader for C says
+pub read-leaves : (s : Session) (kind domain first : ℕ) (bindings log : List ℕ) (x : Exported) → ReadOn (s .words) kind domain first bindings log x
+    → x .words ≡ sessionAfter s (LibraryCall.reads kind domain first bindings log) .words
+read-leaves s kind domain first bindings log x (noKind l) = ap (λ (t : Session). t .words) (sym (hit _ (lt-ltb 1 kind l)))
+read-leaves s kind domain first bindings log x (readBack r l a) =
+    let o = openingBy kind domain first bindings in
+    said-words (r .answer) (wordsOf (r .queue))
+    ∙ (ap (λ (y : Reading). wordsOf (y .queue)) (reads-one o log r (readFrom (openedAs o) log) a (reads-from o log))
+    ∙ ap (λ (t : Session). t .words) (sym (miss _ (le-ltb 1 kind l))))
 
 -- whatever is called, recorded or read, a queue that was opened stays sound: 1 is never said of it
 pub session-sound : (s : Session) → isSound (s .words) ≡ true → (cs : List LibraryCall) → isSound (sessionAfterAll s cs .words) ≡ true
