@@ -1,4 +1,4 @@
-/* plain.c: the queue in plain C: its record, its check, and its calls in place, with document 01's checks in its order. */
+/* plain.c: the queue in plain C: its record, its check, and its calls in place, with the rules' checks in their order (R64). */
 #include "plain.h"
 
 #include <string.h>

@@ -1,4 +1,4 @@
-/* plain.h: the queue, its log and its reader in plain C, written from document 01; the benchmark's other side. */
+/* plain.h: the queue, its log and its reader in plain C, written from the rules; the benchmark's other side. */
 #ifndef PLAIN_H
 #define PLAIN_H
 
@@ -11,7 +11,7 @@
 #define PLAIN_ROW_WORDS 5
 #define PLAIN_LOG_ROWS 4096
 
-/* Document 01's numbers of refusal; 0 is done. */
+/* R63: the numbers of refusal; 0 is done. */
 enum plain_result {
     PLAIN_DONE = 0,
     PLAIN_BROKEN = 1,

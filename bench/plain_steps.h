@@ -6,7 +6,7 @@
 
 enum event { ADMIT, LAND, END, CANCEL };
 
-/* Document 01's table of phases; a dash there is the same phase here. */
+/* R28: the table of phases; where it says that a phase stays, that phase stands here. */
 static const uint8_t next_phase[5][4] = {
     [PLAIN_IDLE] = {PLAIN_PENDING, PLAIN_IDLE, PLAIN_IDLE, PLAIN_CLOSED},
     [PLAIN_PENDING] = {PLAIN_PENDING, PLAIN_IDLE, PLAIN_ENDED, PLAIN_STOPPING},

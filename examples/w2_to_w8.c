@@ -1,4 +1,4 @@
-/* w2_to_w8.c: a first program: two undo numbers, one that fails and is retried; document 01's cases W2 to W8. */
+/* w2_to_w8.c: a first program: two undo numbers, one that fails and is retried; the cases W2 to W8 of docs/RULES.md. */
 #include <stdio.h>
 #include <stdlib.h>
 

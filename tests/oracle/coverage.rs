@@ -1,4 +1,4 @@
-// coverage.rs: what document 01 lets each call answer, written down, and how often each was seen.
+// coverage.rs: what the rules let each call answer, written down, and how often each was seen.
 
 use crate::console::{Console, Said};
 use crate::limitsmet;

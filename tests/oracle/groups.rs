@@ -1,4 +1,4 @@
-// groups.rs: the group record, its well-formedness and every group call, as document 01 states them.
+// groups.rs: the group record, its well-formedness and every group call, as the rules state them.
 
 use crate::questions::{cancelled, drained, finishable, retry_allowed};
 use crate::queue::{open_iterator, open_scope, pending, retry, well_formed, Queue};

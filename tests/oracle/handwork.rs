@@ -1,4 +1,4 @@
-// handwork.rs: console scripts worked out by hand from document 01: W1 to W12, groups, bad lines.
+// handwork.rs: console scripts worked out by hand from the rules: W1 to W12, groups, bad lines.
 
 use crate::badlines;
 use crate::console;

@@ -1,4 +1,4 @@
-// main.rs: the commands of the test oracle, written from document 01.
+// main.rs: the commands of the test oracle, written from the rules.
 
 mod agree;
 mod badlines;

@@ -1,4 +1,4 @@
-// readings.rs: the places that document 01 leaves open, and what was decided here; no code.
+// readings.rs: what the paper behind the rules leaves open, and what was decided here; no code.
 //
 // decided: a new group record has the root open, id 0, a scope whose domain is the base; next is 1.
 // decided: a base too large leaves the record of base 0 with no live group, next 0, unsealed.

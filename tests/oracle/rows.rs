@@ -2,7 +2,7 @@
 
 pub const TOP: u64 = u64::MAX;
 
-// The longest log that document 01 allows; both readings name it, so it stands here.
+// The longest log that R77 allows; both readings name it, so it stands here.
 pub const LOG_ROWS: usize = 4096;
 
 // kind, token, attempt, outcome, number

@@ -1,4 +1,4 @@
-// selftest.rs: hand-worked cases from document 01: the marked cases, the phases, the refusals.
+// selftest.rs: cases worked out by hand from the rules: the marked cases, the phases, the refusals.
 
 use crate::fixed;
 use crate::handwork;
@@ -78,7 +78,7 @@ fn marked_ten_to_twelve(tally: &mut Tally) {
     tally.check("W12 full", register(&queue, 7) == Err(3));
 }
 
-// The table as the paper prints it: columns admit, land, end, cancel.
+// The table of R28: columns admit, land, end, cancel.
 fn phases(tally: &mut Tally) {
     use Phase::*;
     let table = [
