@@ -1,11 +1,12 @@
--- What is due names one of the slots
+-- What is due where a mark stands; and that it names one of the slots
 use Prim.Native.Nat.{ℕ, _+_, _<_}
 use mathlib.Core.Path.{_≡_, refl, ap}
-use mathlib.Core.Bool.{Bool}
+use mathlib.Core.Bool.{Bool, true, false}
 use mathlib.Core.List.{List}
 use native.Mathlib.Omega.{arith}
 use lib.Dec.{eqb, leb}
 use lib.ListN.{length}
+use Rattle.choice.specs.Choice.{if_then_else_}
 use Rattle.choice.proofs.Ways.{if-by}
 use Rattle.queue_record.specs.Waiting.{occupied}
 use Rattle.queue_record.specs.Newest.{newest}
@@ -16,8 +17,17 @@ use Rattle.queue_record.specs.declared.search.Found.{Found}
 use Rattle.queue_record.specs.declared.search.Found.the-variants.{At, Missing}
 use Rattle.queue_record.proofs.Last.{newest-below}
 use Rattle.queue_decisions.specs.Slots.{noMore, slotIn}
-use Rattle.queue_decisions.specs.Pops.{sought, freshOf, freshDue, dueBy, popDue}
+use Rattle.queue_decisions.specs.Pops.{sought, isMarked, unless, freshOf, freshDue, dueBy, popDue}
 use Rattle.queue_decisions.specs.declared.pops.Due.{Due}
+
+pub unless-nothing : (rests : Bool) → unless rests Due.Nothing ≡ Due.Nothing
+unless-nothing true = refl
+unless-nothing false = refl
+
+-- mark by mark, and both at once
+pub marks-once : (issued failed : Bool) (d : Due) → (if issued then Due.Nothing else if failed then Due.Nothing else d) ≡ unless (isMarked issued failed) d
+marks-once true failed d = refl
+marks-once false failed d = refl
 
 module _ (slots : List ℕ) (domain next : ℕ) (t : Ticket) (number coming : ℕ) where
   abbrev Below : Due → Type 0

@@ -1,6 +1,6 @@
 -- R41 to R47: what pop hands out, with its refusals in the order of R64 behind 1
 use Prim.Native.Nat.{ℕ, _+_}
-use mathlib.Core.Bool.{Bool}
+use mathlib.Core.Bool.{Bool, _||_}
 use mathlib.Core.List.{List}
 use lib.Dec.{eqb, leb}
 use Rattle.choice.specs.Choice.{if_then_else_}
@@ -46,6 +46,14 @@ readyBy ticket number next =
 abbrev pub dueBy : Found → List ℕ → ℕ → ℕ → Selection → Due
 dueBy found slots domain next Free = freshDue found slots domain next
 dueBy found slots domain next (Of ticket) = readyBy ticket (slotIn slots (ticket .token)) next
+
+-- R41: a mark stands: something is out, or has failed. Both at once, as either branch of the code asks them
+abbrev pub isMarked : Bool → Bool → Bool
+isMarked issued failed = issued || failed
+
+-- Nothing where that is so
+abbrev pub unless : Bool → Due → Due
+unless rests due = if rests then Due.Nothing else due
 
 -- R41: Nothing while a mark stands
 unfoldable pub popDue : Bool → Bool → Selection → Found → List ℕ → ℕ → ℕ → Due

@@ -23,12 +23,12 @@ fn same_ticket(a: Ticket, b: Ticket) -> bool
 fn is_out(issued: bool, selection: Selection, ticket: Ticket) -> bool
     ensures { λ r. ⌜ r ≡ isOut issued selection ticket ⌝ }
 {
-    if !issued {
-        return false;
-    }
     let Selection::Of(own) = selection else {
         return false;
     };
+    if !issued {
+        return false;
+    }
     same_ticket(own, ticket)
 }
 
@@ -50,10 +50,11 @@ pub fn complete_refusal(
 ) -> u64
     ensures { λ r. ⌜ r ≡ completeRefusal issued selection ticket outcome kept ⌝ }
 {
+    let out = is_out(issued, selection, ticket);
     if 1 < outcome {
         return BAD_OUTCOME;
     }
-    if !is_out(issued, selection, ticket) {
+    if !out {
         return NOT_OUT;
     }
     if keeps_on_done(outcome, kept) {

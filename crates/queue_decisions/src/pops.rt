@@ -8,7 +8,8 @@ use queue_record::newest_place;
 use queue_record::refusal::HOLLOW;
 use queue_record::refusal::NO_ATTEMPT;
 ghost use mathlib.Core.Path.{_≡_};
-ghost use Rattle.queue_decisions.specs.Pops.{sought, freshDue, popDue};
+ghost use Rattle.queue_decisions.specs.Slots.{slotIn};
+ghost use Rattle.queue_decisions.specs.Pops.{sought, isMarked, unless, freshDue, readyBy, popDue};
 
 pub enum Due {
     Nothing,
@@ -28,13 +29,26 @@ pub fn seek(selection: Selection, slots: &[u64]) -> Found
     newest_place(slots)
 }
 
+// Out or failed: nothing is handed out beside it.
+fn marked(issued: bool, failed: bool) -> bool
+    ensures { λ r. ⌜ r ≡ isMarked issued failed ⌝ }
+{
+    if issued {
+        return true;
+    }
+    failed
+}
+
 // A fresh ticket for the token that was found.
-fn fresh_due(found: Found, slots: &[u64], domain: u64, next: u64) -> Due
-    ensures { λ r. ⌜ r ≡ freshDue found (now (slots .entry)) domain next ⌝ }
+fn fresh_due(issued: bool, failed: bool, found: Found, slots: &[u64], domain: u64, next: u64) -> Due
+    ensures { λ r. ⌜ r ≡ unless (isMarked issued failed) (freshDue found (now (slots .entry)) domain next) ⌝ }
 {
     let Found::At(token) = found else {
         return Due::Nothing;
     };
+    if marked(issued, failed) {
+        return Due::Nothing;
+    }
     let number = slot_at(slots, token);
     if number == 0 {
         return Due::Refused(HOLLOW);
@@ -50,6 +64,20 @@ fn fresh_due(found: Found, slots: &[u64], domain: u64, next: u64) -> Due
     Due::Of(ticket, number, next + 1)
 }
 
+fn ready_due(issued: bool, failed: bool, ready: Ticket, slots: &[u64], next: u64) -> Due
+    ensures { λ r. ⌜ r ≡ unless (isMarked issued failed) (readyBy ready (slotIn (now (slots .entry)) (ready .token)) next) ⌝ }
+{
+    if marked(issued, failed) {
+        return Due::Nothing;
+    }
+    let number = slot_at(slots, ready.token);
+    if number == 0 {
+        return Due::Refused(HOLLOW);
+    }
+    Due::Of(ready, number, next)
+}
+
+// By what is selected, as soon as it is known; the marks are asked in either branch, which costs less than joining the two first.
 pub fn pop_due(
     issued: bool,
     failed: bool,
@@ -61,18 +89,8 @@ pub fn pop_due(
 ) -> Due
     ensures { λ r. ⌜ r ≡ popDue issued failed selection found (now (slots .entry)) domain next ⌝ }
 {
-    if issued {
-        return Due::Nothing;
-    }
-    if failed {
-        return Due::Nothing;
-    }
     let Selection::Of(ready) = selection else {
-        return fresh_due(found, slots, domain, next);
+        return fresh_due(issued, failed, found, slots, domain, next);
     };
-    let number = slot_at(slots, ready.token);
-    if number == 0 {
-        return Due::Refused(HOLLOW);
-    }
-    Due::Of(ready, number, next)
+    ready_due(issued, failed, ready, slots, next)
 }

@@ -17,20 +17,15 @@ pub fn due_in(w: &Words) -> Due
     requires { ⌜ isSound (now w) ≡ true ⌝ }
     ensures { λ r. ⌜ r ≡ dueIn (queueOf (now (w .entry))) ⌝ }
 {
-    let selection = selection_in(w);
-    let found = sought_in(w);
     let issued = w[ISSUED] == 1;
     let failed = w[FAILED] == 1;
+    let domain = w[DOMAIN];
+    let next = w[NEXT];
     let words = &w[..];
-    pop_due(
-        issued,
-        failed,
-        selection,
-        found,
-        &words[SLOTS..COUNT],
-        w[DOMAIN],
-        w[NEXT],
-    )
+    let slots = &words[SLOTS..COUNT];
+    let selection = selection_in(w);
+    let found = sought_in(w);
+    pop_due(issued, failed, selection, found, slots, domain, next)
 }
 
 // The ticket is selected, its slot empties, issued is set.

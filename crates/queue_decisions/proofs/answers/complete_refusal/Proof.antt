@@ -21,24 +21,24 @@ fromKept s = if keepsOnDone (s .args .outcome) (s .args .kept) then keptOnDone e
 abbrev fromOut : tie.Start → ℕ
 fromOut s = if not (isOut (s .args .issued) (s .args .selection) (s .args .ticket)) then notOut else fromKept s
 
-abbrev to1 : tie.Else2 → tie.Else1
-to1 c = c .before .before
+abbrev start : tie.Else1 → tie.Start
+start c = c .before .before
 
-left1 : (c : tie.Else1) → whole (c .before) ≡ fromOut (c .before)
+left1 : (c : tie.Else1) → whole (start c) ≡ fromOut (start c)
 unfolding completeRefusal
 left1 c = miss _ (le-ltb _ _ (c .if1 .left))
 
-left2 : (c : tie.Else2) → whole (to1 c .before) ≡ fromKept (to1 c .before)
-left2 c = left1 (to1 c) ∙ miss _ (negated (c .before .is-out .ensures) (c .if2 .left))
+left2 : (c : tie.Else2) → whole (start (c .before)) ≡ fromKept (start (c .before))
+left2 c = left1 (c .before) ∙ miss _ (negated (c .before .before .is-out .ensures) (c .if2 .left))
 
 pub complete-refusal-spec : {M : Type 1} → statement M
 unfolding completeRefusal
 complete-refusal-spec =
     tie.close
     (tie.spec
-    (λ c. sym (hit _ (lt-ltb _ _ (c .if1 .taken))))
     (λ c κs. search needs)
-    (λ c. sym (left1 (c .before .before) ∙ hit _ (negated (c .before .is-out .ensures) (c .if2 .taken))))
+    (λ c. sym (hit _ (lt-ltb _ _ (c .if1 .taken))))
+    (λ c. sym (left1 (c .before) ∙ hit _ (negated (c .before .before .is-out .ensures) (c .if2 .taken))))
     (λ c κs. search needs)
     (λ c. sym (left2 (c .before .before) ∙ hit _ (sym (c .before .keeps-on-done .ensures) ∙ (c .if3 .taken))))
     (λ c. sym (left2 (c .before .before) ∙ miss _ (sym (c .before .keeps-on-done .ensures) ∙ (c .if3 .left)))))

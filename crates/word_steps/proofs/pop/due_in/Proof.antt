@@ -13,9 +13,16 @@ use borrow.Author.Needs.{needs}
 use Rattle.word_steps.proofs.pop.due_in.Statement.{statement}
 use Rattle.word_steps.proofs.pop.due_in.Tie as tie
 
+-- the marks and numbers read, and the slots lent
+abbrev to-next : tie.After-slots → tie.After-next
+to-next c = c .before .before
+
+abbrev start : tie.After-next → tie.Start
+start c = c .before .before .before .before
+
 -- behind the search
 abbrev asked : tie.After-sought-in → List ℕ
-asked c = (c .before .before .args .w .now)
+asked c = start (to-next (c .before .before)) .args .w .now
 
 abbrev byOwn : tie.After-sought-in → Selection → Found → Due
 byOwn c s f =
@@ -28,16 +35,10 @@ own c =
     ap (λ (s : Selection). byOwn c s (c .sought-in .result)) (c .before .selection-in .ensures)
     ∙ ap (byOwn c (selectionIn (asked c))) (c .sought-in .ensures)
 
--- behind the words that are lent
-abbrev searched : tie.After-words → tie.After-sought-in
-searched c = (c .before .before .before)
-
 pub due-in-spec : {M : Type 1} → statement M
 due-in-spec =
     tie.close
     (tie.spec
-    (λ c κs. search needs)
-    (λ c κs. search needs)
     (λ c. search needs)
     (λ c. search needs)
     (λ c. search needs)
@@ -46,4 +47,6 @@ due-in-spec =
     (λ c. search needs)
     (λ c. search needs)
     (λ c κs. search needs)
-    (λ c. (c .pop-due .ensures) ∙ own (searched (c .before .before .before .before))))
+    (λ c κs. search needs)
+    (λ c κs. search needs)
+    (λ c. (c .pop-due .ensures) ∙ own (c .before)))
