@@ -115,6 +115,6 @@ int main(void) {
     w6_and_w7();
     w8();
     expect_record();
-    puts("W2 to W8: every value as document 01 has it");
+    puts("W2 to W8: every value as docs/RULES.md has it");
     return 0;
 }
