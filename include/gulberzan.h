@@ -2,14 +2,14 @@
 
    What a caller keeps to; what is proved is proved of calls that do:
 
-   Memory. All of it is the caller's, 64-bit words aligned as a uint64_t: GULBERZAN_QUEUE_WORDS for a queue, and so on. The library
-   allocates nothing, keeps no pointer between calls, and has no memory of its own.
+   Memory. All of it is the caller's, 64-bit words aligned as a uint64_t: GULBERZAN_QUEUE_WORDS for a queue, and so on; the bytes of a
+   result's name need no alignment. The library allocates nothing, keeps no pointer between calls, and has no memory of its own.
 
    Null. A pointer is not null. Only that of a list or a log of no words (count or words is 0) may be: nothing is read or written there.
 
-   Overlap. What a call writes (queue, answer, log, *used, text) lies apart: no two of a call's share a word. What it only reads (a
-   ticket, bindings, a target) may lie anywhere, inside what the call writes too: all of it is read before the first word is written,
-   which is seen in the code and tried, since the proofs give each list memory of its own. So the ticket may be
+   Overlap. In every call, questions too, no two of queue, answer, log and *used share a word. A ticket, bindings or a target may lie
+   anywhere, inside these too: all of it is read before the first word is written, which is seen in the code and tried, since the proofs
+   give each list memory of its own. So the ticket may be
    `answer + GULBERZAN_WORK_DOMAIN` as pop left it, or `queue + GULBERZAN_TICKET_DOMAIN`, and the bindings
    `queue + GULBERZAN_FIRST_BINDING`. The log that gulberzan_read reads lies apart from what it writes.
 
@@ -178,7 +178,7 @@ enum gulberzan_row {
 GULBERZAN_CALL(1)
 uint64_t gulberzan_open_scope(uint64_t queue[GULBERZAN_QUEUE_WORDS], uint64_t domain, uint64_t first_attempt);
 
-/* Opens an iterator with count bindings; more than 16 get 14 and leave the blank queue, whose numbers are all 0. */
+/* Opens an iterator with count bindings; more than 16 get 14 and leave the blank queue: a scope of domain 0, first attempt 0. */
 GULBERZAN_CALL(1) GULBERZAN_LOOK
 uint64_t gulberzan_open_iterator(uint64_t queue[GULBERZAN_QUEUE_WORDS], uint64_t domain, uint64_t first_attempt,
                                  const uint64_t *bindings, size_t count);
