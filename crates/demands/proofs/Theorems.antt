@@ -1,5 +1,5 @@
 -- The three demands hold, and the library's: each field by the law that says it
-use mathlib.Core.Path.{_≡_}
+use mathlib.Core.Path.{_≡_, refl}
 use mathlib.Core.Bool.{false}
 use mathlib.Core.List.{[]}
 use lib.ListN.{length}
@@ -25,6 +25,16 @@ use Rattle.cleanup_log.proofs.RecordedNumbers.{register-recorded-number, land-r
 use Rattle.cleanup_log.proofs.RecordedNumbers.{retry-recorded-number}
 use Rattle.cleanup_log.proofs.RecordedNumbers.{admit-recorded-number, end-recorded-number, cancel-recorded-number}
 use Rattle.cleanup_log.proofs.RecordedNumbers.{register-recorded-returns, land-recorded-returns, complete-recorded-returns}
+use Rattle.group_openings.specs.Openings.{newOf}
+use Rattle.cleanup_groups.specs.Promises.{idAt}
+use Rattle.cleanup_groups.proofs.Numbers.{new-number}
+use Rattle.cleanup_groups.proofs.Sounds.{sound-means, means-sound}
+use Rattle.cleanup_groups.proofs.Keeps as groups
+use Rattle.cleanup_groups.proofs.Live.{accepts-as}
+use Rattle.cleanup_groups.proofs.Ids.{gone-stays, closed-for-good, domains-differ}
+use Rattle.cleanup_groups.proofs.Rounds.{round-no}
+use Rattle.cleanup_groups.proofs.Upstream.{scope-as, iterator-as}
+use Rattle.cleanup_groups.proofs.Says.{len-says}
 use Rattle.log_reader.proofs.ReaderLanguage.{reader-language}
 use Rattle.log_reader.proofs.Unique.{reads-one}
 use Rattle.history.specs.Histories.{Bench, numberOf}
@@ -37,6 +47,9 @@ use Rattle.library_laws.proofs.Sessions.{session-sound, read-back-same}
 use Rattle.demands.specs.Demands.{saidBy, orderOf, givenTo, leftBy, QueueQuestion, asksEmpty, asksIssued, asksPending, asksSettled}
 use Rattle.demands.specs.Demands.{asksCancelled, asksFailed, asksRetry, asksFinish, asksDomain, toldTo}
 use Rattle.demands.specs.Demands.{Demand1, Demand2, Demand3, LibraryDemand}
+use Rattle.demands.proofs.GroupTheorems.{one-number-groups, one-number-groups-asked, groups-unchanged, empty-new, blank-get, new-has-root}
+use Rattle.demands.proofs.GroupTheorems.{group-as-queue, asked-as-queue, get-gives, no-such-group, other-groups-stay, closes-exactly, close-frees}
+use Rattle.demands.proofs.GroupTheorems.{seals-exactly, sealed-for-good, round-exactly, round-retries, round-keeps-place, yes-means}
 
 one-number : (q : Queue) (c : BenchCall) → saidBy q c .number ≡ firstDue (orderOf q c)
 one-number q (BenchCall.register n) = register-number q n
@@ -93,6 +106,12 @@ demand1 = record {
   blankOpening = opening-refused;
   nothingChangedRecorded = λ b c. refused-stays b (callOn (b .queue) c);
   givenBackRecorded = λ q log used. (register-recorded-returns q log used, land-recorded-returns q log used, complete-recorded-returns q log used);
+  oneNumberGroups = one-number-groups;
+  oneNumberGroupsAsked = one-number-groups-asked;
+  oneNumberNew = new-number;
+  groupsUnchanged = groups-unchanged;
+  emptyNew = empty-new;
+  blankGet = blank-get;
 }
 
 pub demand2 : Demand2
@@ -108,6 +127,29 @@ demand2 = record {
   staysSound = λ o cs. run-keeps (openedAs o .queue) cs (opened-well-formed o);
   attemptsExactly = attempts-exactly;
   tokensExactly = tokens-exactly;
+  groupAsQueue = group-as-queue;
+  groupAskedAsQueue = asked-as-queue;
+  acceptsMeans = λ g i p. accepts-as g (idAt g i) i (p .places) (p .sound) (p .inside) (p .live) refl;
+  getGives = get-gives;
+  noSuchGroup = no-such-group;
+  otherGroupsStay = other-groups-stay;
+  checkMeansSound = λ g l. (sound-means g l, means-sound g l);
+  newHasRoot = new-has-root;
+  groupsStaySound = λ base cs. let l = groups.new-whole base in (groups.run-keeps (newOf base .groups) cs l (groups.new-keeps base), groups.run-whole (newOf base .groups) cs l);
+  openedGroup = λ g l n. (scope-as g l n, λ bindings h. iterator-as g l n bindings h .1);
+  goneForGood = gone-stays;
+  closedForGood = closed-for-good;
+  domainsDiffer = λ g i j p r. domains-differ g (p .places) (p .sound) i j (p .inside) (r .inside) (p .live) (r .live);
+  closesExactly = λ g id l. closes-exactly g l id;
+  closeFrees = λ g i p. close-frees g (p .places) i p;
+  sealsExactly = seals-exactly;
+  sealedForGood = sealed-for-good;
+  roundExactly = round-exactly;
+  roundElseNothing = round-no;
+  roundRetries = round-retries;
+  roundKeeps = round-keeps-place;
+  yesMeans = yes-means;
+  lenTells = len-says;
 }
 
 pub demand3 : Demand3
