@@ -43,7 +43,9 @@ use Rattle.history.proofs.Written.{refused-stays, goes}
 use Rattle.history.proofs.Accepts.{history-read, bad-read}
 use Rattle.history.proofs.Demand.{same-record}
 use Rattle.history.proofs.WordLogs.{word-logs}
+use Rattle.library_laws.proofs.Sounds.{scope-sound, iterator-sound}
 use Rattle.library_laws.proofs.Sessions.{session-sound, read-back-same}
+use Rattle.library_laws.proofs.NeverOne.{never-one, never-one-asked}
 use Rattle.demands.specs.Demands.{saidBy, orderOf, givenTo, leftBy, QueueQuestion, asksEmpty, asksIssued, asksPending, asksSettled}
 use Rattle.demands.specs.Demands.{asksCancelled, asksFailed, asksRetry, asksFinish, asksDomain, toldTo}
 use Rattle.demands.specs.Demands.{Demand1, Demand2, Demand3, LibraryDemand}
@@ -165,4 +167,10 @@ demand3 = record {
 }
 
 pub library-demand : LibraryDemand
-library-demand = record { neverBroken = session-sound; sameWords = read-back-same }
+library-demand = record {
+  opensSound = λ s domain first bindings. (scope-sound domain first, iterator-sound domain first bindings);
+  neverBroken = session-sound;
+  neverOne = never-one;
+  neverOneAsked = never-one-asked;
+  sameWords = read-back-same;
+}

@@ -8,7 +8,7 @@ use lib.Dec.{eqb}
 use lib.ListN.{length, take}
 use Rattle.queue_record.specs.Record.{Sized}
 use Rattle.stage.specs.Phases.{isPending, isCancelled}
-use Rattle.queue_record.specs.Refusals.{done, noGroup, badLog}
+use Rattle.queue_record.specs.Refusals.{done, broken, noGroup, badLog}
 use Rattle.queue_record.specs.WellFormed.{wellFormed}
 use Rattle.queue_record.specs.Waiting.{waiting}
 use Rattle.queue_record.specs.Openings.{Opening, blank, scopeOf, iteratorOf, openedAs}
@@ -70,7 +70,8 @@ use Rattle.history.specs.Benches.{BenchCall, callOn, WordOpening, LeftIn}
 use Rattle.queue_words.specs.Words.{isSound}
 use Rattle.queue_words.specs.Exported.{Exported}
 use Rattle.gulberzan_c.specs.ReadBack.{ReadOn}
-use Rattle.library_laws.specs.Sessions.{Session, LibraryCall, sessionAfterAll, openingBy, Recorder, usedWords}
+use Rattle.library_laws.specs.Sessions.{Session, LibraryCall, sessionAfter, sessionAfterAll, openingBy, Recorder, usedWords}
+use Rattle.library_laws.specs.Results.{WordQuestion, askedOn, Returned, IsOne}
 
 -- ---- the calls of a queue that may change it, each with its inputs: what one says, in which order it refuses, what it was given
 abbrev pub saidBy : Queue → BenchCall → Said
@@ -400,8 +401,14 @@ pub record Demand3 : Type 0 where
 
 -- ---- of the library for C
 pub record LibraryDemand : Type 0 where
-  -- who only calls it never meets 1 for its queue
+  -- an opening makes sound words of any, and whatever is called they stay sound
+  pub opensSound : (s : Session) (domain first : ℕ) (bindings : List ℕ) → (isSound (sessionAfter s (LibraryCall.opensScope domain first) .words) ≡ true)
+      × (isSound (sessionAfter s (LibraryCall.opensIterator domain first bindings) .words) ≡ true)
   pub neverBroken : (s : Session) → isSound (s .words) ≡ true → (cs : List LibraryCall) → isSound (sessionAfterAll s cs .words) ≡ true
+  -- so who only calls it never gets 1 for its queue: not from a call that may write there, nor from a question
+  pub neverOne : (s : Session) → isSound (s .words) ≡ true → (cs : List LibraryCall) (c : LibraryCall) (n : ℕ) → Returned (sessionAfterAll s cs) c n
+      → (n ≡ broken) ↔ IsOne (sessionAfterAll s cs) c
+  pub neverOneAsked : (s : Session) → isSound (s .words) ≡ true → (cs : List LibraryCall) (a : WordQuestion) → askedOn (sessionAfterAll s cs .words) a .result ≡ broken → ⊥
   -- and what its recorded calls left is read back to the very same words
   pub sameWords : (kind domain first : ℕ) (bindings memory : List ℕ) (s : Session) → kind ≤ 1 → Recorder (openingBy kind domain first bindings) memory s
       → (ws : List ℕ) (x : Exported) → ReadOn ws kind domain first bindings (usedWords s) x → (x .result ≡ done) × (x .words ≡ s .words)
