@@ -230,7 +230,7 @@ toldById g id asksRetry = toldSays (canRetryIn g id)
 toldById g id (asksFinish target) = toldSays (canFinishIn g id target)
 toldById g id asksDomain = domainSays (domainIn g id)
 
--- a yes-or-no question to the whole record
+-- a yes-or-no question to the whole record: contains, is_empty, has_pending, has_issued, has_failed, can_retry_all, can_finish, can_seal, can_add
 pub data RecordQuestion : Type 0 where
   asksContains : ℕ → RecordQuestion
   asksNoneLive : RecordQuestion
@@ -265,7 +265,7 @@ YesMeans g (asksAllFinish target) = EveryLive g (λ id q. finishes id q target)
 YesMeans g asksSeal = (i : ℕ) → i < 16 → LiveAt g i → DrainedQueue (queueAt g i)
 YesMeans g asksRoom = addedScope g .answer ≡ Added.Id (g .next)
 
--- any question: one to a group, whether it takes acquisitions, its queue, one to the record, and how many are live
+-- any question: one to a group, accepts_acquisition, get, one to the record, and len
 pub data GroupQuestion : Type 0 where
   asksGroup : ℕ → QueueQuestion → GroupQuestion
   asksAccepts : ℕ → GroupQuestion
