@@ -9,7 +9,7 @@ use borrow.Author.Tests.{eqb-false, le-ltb}
 use lib.Dec.{ltb}
 use lib.ListN.{length}
 use Rattle.choice.proofs.Ways.{if-by, hit, miss, clash}
-use Rattle.queue_record.specs.Refusals.{noGroup}
+use Rattle.queue_record.specs.Refusals.{done, noGroup}
 use Rattle.queue_record.specs.Openings.{blank, scopeOf}
 use Rattle.queue_record.specs.declared.record.Queue.{Queue}
 use Rattle.queue_record.specs.declared.record.Ticket.{Ticket}
@@ -67,6 +67,9 @@ use Rattle.cleanup_groups.proofs.Drains.{drained-means, means-drained, close-me
 use Rattle.cleanup_groups.proofs.Numbers.{scope-number, iterator-number, get-number, close-number, seal-number}
 use Rattle.cleanup_groups.proofs.NumbersById.{register-number, land-number, pop-number, complete-number, retry-number, admit-number, admit-without-number}
 use Rattle.cleanup_groups.proofs.NumbersById.{end-number, cancel-number, told-number, domain-number, accepts-number, whole-number, len-number, retry-all-number, dead-next}
+use Rattle.cleanup_groups.proofs.Says.{scope-numbered, iterator-numbered, close-numbered, seal-numbered, retry-all-numbered}
+use Rattle.cleanup_groups.proofs.SaysById.{register-numbered, land-numbered, pop-numbered, complete-numbered, retry-numbered, admit-numbered}
+use Rattle.cleanup_groups.proofs.SaysById.{admit-without-numbered, end-numbered, cancel-numbered}
 use Rattle.cleanup_groups.proofs.Refusals.{register-refused, land-refused, pop-refused, complete-refused, retry-refused, admit-refused, admit-without-refused}
 use Rattle.cleanup_groups.proofs.Refusals.{end-refused, cancel-refused, close-refused, seal-refused, scope-refused, iterator-refused}
 use Rattle.cleanup_groups.proofs.Live.{live-spot, register-as, land-as, pop-as, complete-as, retry-as, admit-as, admit-without-as, end-as, cancel-as, get-as, told-as, drained-closes}
@@ -78,7 +81,7 @@ use Rattle.cleanup_groups.proofs.Rounds.{round-no, round-yes, round-renews, rou
 use Rattle.cleanup_groups.proofs.Upstream.{round-at}
 use Rattle.history.specs.Benches.{BenchCall}
 use Rattle.demands.specs.Demands.{saidBy, leftBy, toldTo, QueueQuestion, asksEmpty, asksIssued, asksPending, asksSettled, asksCancelled, asksFailed, asksRetry, asksFinish, asksDomain}
-use Rattle.demands.specs.Demands.{saidOfGroups, groupsOrder, givenToGroups, GroupsRefusedAs, byId, isFor, toldById, RecordQuestion, recordTold, YesMeans}
+use Rattle.demands.specs.Demands.{saidOfGroups, groupsOrder, givenToGroups, GroupsNotRefusedWith0, GroupsRefusedAs, byId, isFor, toldById, RecordQuestion, recordTold, YesMeans}
 use Rattle.demands.specs.Demands.{asksContains, asksNoneLive, asksSomePending, asksSomeIssued, asksSomeFailed, asksRetryAll, asksAllFinish, asksSeal, asksRoom}
 use Rattle.demands.specs.Demands.{GroupQuestion, asksGroup, asksAccepts, asksQueue, asksRecord, asksLen, groupsTold, groupsAskedOrder, SixteenPlaces, LiveGroup}
 
@@ -127,6 +130,23 @@ one-number-groups-asked g (asksAccepts id) = accepts-number g id
 one-number-groups-asked g (asksQueue id) = get-number g id
 one-number-groups-asked g (asksRecord a) = record-number g a
 one-number-groups-asked g asksLen = len-number g
+
+-- ---- a refusal is not numbered 0
+pub groups-not-refused-with-0 : (g : Groups) (c : GroupCall) → GroupsNotRefusedWith0 g c
+groups-not-refused-with-0 g GroupCall.addScope = λ e. scope-numbered g done e refl
+groups-not-refused-with-0 g (GroupCall.addIterator bindings) = λ e. iterator-numbered g bindings done e refl
+groups-not-refused-with-0 g (GroupCall.remove id) = λ e. close-numbered g id done e refl
+groups-not-refused-with-0 g GroupCall.seal = λ e. seal-numbered g done e refl
+groups-not-refused-with-0 g (GroupCall.register id n) = λ given e. register-numbered g id n given done e refl
+groups-not-refused-with-0 g (GroupCall.land id n) = λ given e. land-numbered g id n given done e refl
+groups-not-refused-with-0 g (GroupCall.pop id) = λ e. pop-numbered g id done e refl
+groups-not-refused-with-0 g (GroupCall.complete id t o k) = λ given e. complete-numbered g id t o k given done e refl
+groups-not-refused-with-0 g (GroupCall.retry id) = λ e. retry-numbered g id done e refl
+groups-not-refused-with-0 g (GroupCall.admit id target) = λ e. admit-numbered g id target done e refl
+groups-not-refused-with-0 g (GroupCall.admitWithout id) = λ e. admit-without-numbered g id done e refl
+groups-not-refused-with-0 g (GroupCall.end id) = λ e. end-numbered g id done e refl
+groups-not-refused-with-0 g (GroupCall.cancel id) = λ e. cancel-numbered g id done e refl
+groups-not-refused-with-0 g GroupCall.retryAll = λ e. retry-all-numbered g done e refl
 
 -- ---- a refusal by its number: what it leaves and gives back
 module _ (g h : Groups) where

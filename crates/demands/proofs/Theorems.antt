@@ -3,6 +3,7 @@ use mathlib.Core.Path.{_≡_, refl}
 use mathlib.Core.Bool.{false}
 use mathlib.Core.List.{[]}
 use lib.ListN.{length}
+use Rattle.queue_record.specs.Refusals.{done}
 use Rattle.queue_record.specs.Openings.{openedAs}
 use Rattle.queue_record.specs.declared.record.Queue.{Queue}
 use Rattle.queue_record.proofs.Opened.{opened-well-formed}
@@ -11,7 +12,8 @@ use Rattle.cleanup_queue.specs.Orders.{firstDue, RefusedAs, brokenOnly}
 use Rattle.cleanup_queue.proofs.Numbers.{opening-number, register-number, land-number, pop-number, complete-number, retry-number, questions-number}
 use Rattle.cleanup_queue.proofs.Numbers.{admit-number, end-number, cancel-number, domain-number}
 use Rattle.cleanup_queue.proofs.Said.{opening-refused, register-refused, land-refused, pop-refused, complete-refused, retry-refused, admit-refused}
-use Rattle.cleanup_queue.proofs.Said.{end-refused, cancel-refused}
+use Rattle.cleanup_queue.proofs.Said.{end-refused, cancel-refused, opening-no-zero, register-no-zero, land-no-zero, pop-no-zero, complete-no-zero}
+use Rattle.cleanup_queue.proofs.Said.{retry-no-zero, admit-no-zero, end-no-zero, cancel-no-zero}
 use Rattle.cleanup_queue.proofs.HandsOut.{pop-exactly, pop-hands}
 use Rattle.cleanup_queue.proofs.Upstream.{waiting-rises}
 use Rattle.cleanup_queue.proofs.Waits.{register-appends, land-appends, fresh-pop-drops}
@@ -34,7 +36,7 @@ use Rattle.cleanup_groups.proofs.Live.{accepts-as}
 use Rattle.cleanup_groups.proofs.Ids.{gone-stays, closed-for-good, domains-differ}
 use Rattle.cleanup_groups.proofs.Rounds.{round-no}
 use Rattle.cleanup_groups.proofs.Upstream.{scope-as, iterator-as}
-use Rattle.cleanup_groups.proofs.Says.{len-says}
+use Rattle.cleanup_groups.proofs.Says.{len-says, new-numbered, get-numbered}
 use Rattle.log_reader.proofs.ReaderLanguage.{reader-language}
 use Rattle.log_reader.proofs.Unique.{reads-one}
 use Rattle.history.specs.Histories.{Bench, numberOf}
@@ -46,10 +48,10 @@ use Rattle.history.proofs.WordLogs.{word-logs}
 use Rattle.library_laws.proofs.Sounds.{scope-sound, iterator-sound}
 use Rattle.library_laws.proofs.Sessions.{session-sound, read-back-same}
 use Rattle.library_laws.proofs.NeverOne.{never-one, never-one-asked}
-use Rattle.demands.specs.Demands.{saidBy, orderOf, givenTo, leftBy, QueueQuestion, asksEmpty, asksIssued, asksPending, asksSettled}
+use Rattle.demands.specs.Demands.{saidBy, orderOf, givenTo, NotRefusedWith0, leftBy, QueueQuestion, asksEmpty, asksIssued, asksPending, asksSettled}
 use Rattle.demands.specs.Demands.{asksCancelled, asksFailed, asksRetry, asksFinish, asksDomain, toldTo}
 use Rattle.demands.specs.Demands.{Demand1, Demand2, Demand3, LibraryDemand}
-use Rattle.demands.proofs.GroupTheorems.{one-number-groups, one-number-groups-asked, groups-unchanged, empty-new, blank-get, new-has-root}
+use Rattle.demands.proofs.GroupTheorems.{one-number-groups, one-number-groups-asked, groups-not-refused-with-0, groups-unchanged, empty-new, blank-get, new-has-root}
 use Rattle.demands.proofs.GroupTheorems.{group-as-queue, asked-as-queue, get-gives, no-such-group, other-groups-stay, closes-exactly, close-frees}
 use Rattle.demands.proofs.GroupTheorems.{seals-exactly, sealed-for-good, round-exactly, round-retries, round-keeps-place, yes-means}
 
@@ -87,6 +89,17 @@ one-number-recorded b BenchCall.admitWithout = admit-recorded-number (b .queue) 
 one-number-recorded b BenchCall.end = end-recorded-number (b .queue) (b .log) (b .used)
 one-number-recorded b BenchCall.cancel = cancel-recorded-number (b .queue) (b .log) (b .used)
 
+not-refused-with-0 : (q : Queue) (c : BenchCall) → NotRefusedWith0 q c
+not-refused-with-0 q (BenchCall.register n) = register-no-zero q n
+not-refused-with-0 q (BenchCall.land n) = land-no-zero q n
+not-refused-with-0 q BenchCall.pop = pop-no-zero q
+not-refused-with-0 q (BenchCall.complete t o k) = complete-no-zero q t o k
+not-refused-with-0 q BenchCall.retry = retry-no-zero q
+not-refused-with-0 q (BenchCall.admit target) = admit-no-zero q (matches q target)
+not-refused-with-0 q BenchCall.admitWithout = admit-no-zero q false
+not-refused-with-0 q BenchCall.end = end-no-zero q
+not-refused-with-0 q BenchCall.cancel = cancel-no-zero q
+
 nothing-changed : (q : Queue) (c : BenchCall) → RefusedAs q (givenTo c) (saidBy q c) (leftBy q c)
 nothing-changed q (BenchCall.register n) = register-refused q n
 nothing-changed q (BenchCall.land n) = land-refused q n
@@ -104,6 +117,7 @@ demand1 = record {
   oneNumberAsked = one-number-asked;
   oneNumberOpening = opening-number;
   oneNumberRecorded = one-number-recorded;
+  refusalIsNot0 = (not-refused-with-0, opening-no-zero);
   nothingChanged = nothing-changed;
   blankOpening = opening-refused;
   nothingChangedRecorded = λ b c. refused-stays b (callOn (b .queue) c);
@@ -111,6 +125,7 @@ demand1 = record {
   oneNumberGroups = one-number-groups;
   oneNumberGroupsAsked = one-number-groups-asked;
   oneNumberNew = new-number;
+  groupsRefusalIsNot0 = (groups-not-refused-with-0, λ base e. new-numbered base done e refl, λ g id e. get-numbered g id done e refl);
   groupsUnchanged = groups-unchanged;
   emptyNew = empty-new;
   blankGet = blank-get;

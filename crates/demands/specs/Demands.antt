@@ -19,10 +19,12 @@ use Rattle.queue_decisions.specs.Slots.{noMore}
 use Rattle.queue_births.specs.Births.{registered, landed}
 use Rattle.queue_steps.specs.Attempts.{popped, completed, retried}
 use Rattle.queue_births.specs.declared.births.Registered.{Registered}
+use Rattle.queue_steps.specs.declared.attempts.Popped.{Popped}
 use Rattle.queue_steps.specs.declared.attempts.Popped.the-variants.{Work}
 use Rattle.queue_steps.specs.declared.attempts.Completed.{Completed}
-use Rattle.queue_steps.specs.declared.attempts.Retried.the-variants.{Again}
+use Rattle.queue_steps.specs.declared.attempts.Retried.{Retried}
 use Rattle.queue_stages.specs.Stages.{admitted, ended, cancelledBy}
+use Rattle.queue_stages.specs.declared.stages.Cancelled.{Cancelled}
 use Rattle.queue_questions.specs.Questions.{yesOrNo, matches, isEmptyTold, isIssuedTold, isPendingTold, isSettledTold, isCancelledTold, hasFailedTold, canRetryTold, canFinishTold, domainTold}
 use Rattle.queue_questions.specs.declared.questions.Told.{Told}
 use Rattle.queue_questions.specs.declared.questions.Told.the-variants.{Yes}
@@ -37,7 +39,7 @@ use Rattle.group_asking.specs.Questions.{stuck, finishes}
 use Rattle.group_check.specs.WellFormed.{lastBase, wellGrouped}
 use Rattle.group_check.specs.Count.{liveCount}
 use Rattle.group_check.specs.Ids.{got}
-use Rattle.group_check.specs.declared.ids.Got.the-variants.{Group}
+use Rattle.group_check.specs.declared.ids.Got.{Got}
 use Rattle.group_questions.specs.ById.{isEmptyIn, isIssuedIn, isPendingIn, isSettledIn, isCancelledIn, hasFailedIn, canRetryIn, canFinishIn, domainIn, acceptsIn}
 use Rattle.group_survey.specs.Whole.{containsTold, isEmptyOf, hasPendingOf, hasIssuedOf, hasFailedOf, canRetryAllOf, canFinishOf, canSealOf, canAddOf, lenOf}
 use Rattle.group_openings.specs.Openings.{newOf, nextDomain, addedScope, addedIterator}
@@ -107,6 +109,18 @@ givenTo (BenchCall.admit target) = []
 givenTo BenchCall.admitWithout = []
 givenTo BenchCall.end = []
 givenTo BenchCall.cancel = []
+
+-- its refusal never has the number 0, which says done
+abbrev pub NotRefusedWith0 : Queue → BenchCall → Type 0
+NotRefusedWith0 q (BenchCall.register n) = (given : ℕ) → registered q n .answer ≡ Registered.Refused done given → ⊥
+NotRefusedWith0 q (BenchCall.land n) = (given : ℕ) → landed q n .answer ≡ Registered.Refused done given → ⊥
+NotRefusedWith0 q BenchCall.pop = popped q .answer ≡ Popped.Refused done → ⊥
+NotRefusedWith0 q (BenchCall.complete t outcome kept) = (given : ℕ) → completed q t outcome kept .answer ≡ Completed.Refused done given → ⊥
+NotRefusedWith0 q BenchCall.retry = retried q .answer ≡ Retried.Refused done → ⊥
+NotRefusedWith0 q (BenchCall.admit target) = admitted q (matches q target) .answer ≡ Told.Refused done → ⊥
+NotRefusedWith0 q BenchCall.admitWithout = admitted q false .answer ≡ Told.Refused done → ⊥
+NotRefusedWith0 q BenchCall.end = ended q .answer ≡ Told.Refused done → ⊥
+NotRefusedWith0 q BenchCall.cancel = cancelledBy q .answer ≡ Cancelled.Refused done → ⊥
 
 abbrev pub leftBy : Queue → BenchCall → Queue
 leftBy q c = after q (callOn q c)
@@ -183,6 +197,23 @@ givenToGroups (GroupCall.admitWithout id) = []
 givenToGroups (GroupCall.end id) = []
 givenToGroups (GroupCall.cancel id) = []
 givenToGroups GroupCall.retryAll = []
+
+-- its refusal never has the number 0
+abbrev pub GroupsNotRefusedWith0 : Groups → GroupCall → Type 0
+GroupsNotRefusedWith0 g GroupCall.addScope = addedScope g .answer ≡ Added.Refused done → ⊥
+GroupsNotRefusedWith0 g (GroupCall.addIterator bindings) = addedIterator g bindings .answer ≡ Added.Refused done → ⊥
+GroupsNotRefusedWith0 g (GroupCall.remove id) = removed g id .answer ≡ Closed.Refused done → ⊥
+GroupsNotRefusedWith0 g GroupCall.seal = sealedIn g .answer ≡ Closed.Refused done → ⊥
+GroupsNotRefusedWith0 g (GroupCall.register id n) = (given : ℕ) → registeredIn g id n .answer ≡ Registered.Refused done given → ⊥
+GroupsNotRefusedWith0 g (GroupCall.land id n) = (given : ℕ) → landedIn g id n .answer ≡ Registered.Refused done given → ⊥
+GroupsNotRefusedWith0 g (GroupCall.pop id) = poppedIn g id .answer ≡ Popped.Refused done → ⊥
+GroupsNotRefusedWith0 g (GroupCall.complete id t outcome kept) = (given : ℕ) → completedIn g id t outcome kept .answer ≡ Completed.Refused done given → ⊥
+GroupsNotRefusedWith0 g (GroupCall.retry id) = retriedIn g id .answer ≡ Retried.Refused done → ⊥
+GroupsNotRefusedWith0 g (GroupCall.admit id target) = admittedIn g id target .answer ≡ Told.Refused done → ⊥
+GroupsNotRefusedWith0 g (GroupCall.admitWithout id) = admittedInWithout g id .answer ≡ Told.Refused done → ⊥
+GroupsNotRefusedWith0 g (GroupCall.end id) = endedIn g id .answer ≡ Told.Refused done → ⊥
+GroupsNotRefusedWith0 g (GroupCall.cancel id) = cancelledIn g id .answer ≡ Cancelled.Refused done → ⊥
+GroupsNotRefusedWith0 g GroupCall.retryAll = retriedAll g .answer ≡ Told.Refused done → ⊥
 
 -- where an answer's number is not 0, its values are those given back, and the record with it is g
 abbrev pub GroupsRefusedAs : Groups → List ℕ → Said → Groups → Type 0
@@ -306,6 +337,8 @@ pub record Demand1 : Type 0 where
   pub oneNumberOpening : (o : Opening) → openedSays (openedAs o .answer) .number ≡ firstDue (openingOrder o)
   pub oneNumberRecorded : (b : Bench) (c : BenchCall)
       → numberOf b (callOn (b .queue) c) ≡ firstDue (recordedOrder (length (b .log)) (b .used) (orderOf (b .queue) c) (entryOf (b .queue) (callOn (b .queue) c) .changed))
+  -- what is refused is told from what is done by its number
+  pub refusalIsNot0 : ((q : Queue) (c : BenchCall) → NotRefusedWith0 q c) × ((o : Opening) → openedAs o .answer ≡ Opened.Refused done → ⊥)
   pub nothingChanged : (q : Queue) (c : BenchCall) → RefusedAs q (givenTo c) (saidBy q c) (leftBy q c)
   pub blankOpening : (o : Opening) → RefusedAs blank [] (openedSays (openedAs o .answer)) (openedAs o .queue)
   pub nothingChangedRecorded : (b : Bench) (c : BenchCall) → (numberOf b (callOn (b .queue) c) ≡ done → ⊥) → called b (callOn (b .queue) c) ≡ b
@@ -316,6 +349,8 @@ pub record Demand1 : Type 0 where
   pub oneNumberGroups : (g : Groups) (c : GroupCall) → saidOfGroups g c .number ≡ firstDue (groupsOrder g c)
   pub oneNumberGroupsAsked : (g : Groups) (a : GroupQuestion) → groupsTold g a .number ≡ firstDue (groupsAskedOrder g a)
   pub oneNumberNew : (base : ℕ) → openedSays (newOf base .answer) .number ≡ firstDue (newOrder base)
+  pub groupsRefusalIsNot0 : ((g : Groups) (c : GroupCall) → GroupsNotRefusedWith0 g c) × ((base : ℕ) → newOf base .answer ≡ Opened.Refused done → ⊥)
+      × ((g : Groups) (id : ℕ) → got g id .answer ≡ Got.Refused done → ⊥)
   pub groupsUnchanged : (g : Groups) (c : GroupCall) → GroupsRefusedAs g (givenToGroups c) (saidOfGroups g c) (groupsAfter g c)
   pub emptyNew : (base : ℕ) → GroupsRefusedAs (emptyOf 0) [] (openedSays (newOf base .answer)) (newOf base .groups)
   pub blankGet : (g : Groups) (id : ℕ) → RefusedAs blank [] (gotSays (got g id .answer)) (got g id .queue)
@@ -344,7 +379,7 @@ pub record Demand2 : Type 0 where
       × (groupsAfter g (byId (idAt g i) c) ≡ withQueue g i (leftBy (queueAt g i) c))
   pub groupAskedAsQueue : (g : Groups) (i : ℕ) → LiveGroup g i → (a : QueueQuestion) → toldById g (idAt g i) a ≡ toldTo (queueAt g i) a
   pub acceptsMeans : (g : Groups) (i : ℕ) → LiveGroup g i → acceptsIn g (idAt g i) ≡ yesOrNo (not (isCancelled (queueAt g i .phase)))
-  pub getGives : (g : Groups) (i : ℕ) → LiveGroup g i → got g (idAt g i) ≡ record { answer = Group; queue = queueAt g i }
+  pub getGives : (g : Groups) (i : ℕ) → LiveGroup g i → got g (idAt g i) ≡ record { answer = Got.Group; queue = queueAt g i }
   -- on any other id it says 10
   pub noSuchGroup : (g : Groups) (id : ℕ) → SixteenPlaces g → wellGrouped g ≡ true → (IsLive g id → ⊥)
       → ((c : BenchCall) → saidOfGroups g (byId id c) .number ≡ noGroup) × (saidOfGroups g (GroupCall.remove id) .number ≡ noGroup) × ((a : QueueQuestion) → toldById g id a .number ≡ noGroup)
@@ -373,7 +408,7 @@ pub record Demand2 : Type 0 where
   pub roundElseNothing : (g : Groups) → (retriedAll g .answer ≡ Yes → ⊥) → retriedAll g .groups ≡ g
   -- each failed group is retried as a queue, and gets a new ticket; one that had not failed keeps its whole place
   pub roundRetries : (g : Groups) (i : ℕ) → LiveGroup g i → retriedAll g .answer ≡ Yes → queueAt g i .failed ≡ true
-      → (queueAt (retriedAll g .groups) i ≡ retried (queueAt g i) .queue) × ((t : Ticket) × (retried (queueAt g i) .answer ≡ Again t))
+      → (queueAt (retriedAll g .groups) i ≡ retried (queueAt g i) .queue) × ((t : Ticket) × (retried (queueAt g i) .answer ≡ Retried.Again t))
   pub roundKeeps : (g : Groups) (i : ℕ) → queueAt g i .failed ≡ false → placeAt (retriedAll g .groups) i ≡ placeAt g i
   -- what a yes means, and how many are live
   pub yesMeans : (g : Groups) → SixteenPlaces g → (a : RecordQuestion) → (recordTold g a ≡ Yes) ↔ ((wellGrouped g ≡ true) × YesMeans g a)
