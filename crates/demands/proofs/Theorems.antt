@@ -1,7 +1,8 @@
 -- The three demands hold, and the library's: each field by the law that says it
+use Prim.Native.Nat.{ℕ}
 use mathlib.Core.Path.{_≡_, refl}
 use mathlib.Core.Bool.{false}
-use mathlib.Core.List.{[]}
+use mathlib.Core.List.{List, []}
 use lib.ListN.{length}
 use Rattle.queue_record.specs.Refusals.{done}
 use Rattle.queue_record.specs.Openings.{openedAs}
@@ -25,6 +26,8 @@ use Rattle.cleanup_log.specs.Entries.{entryOf}
 use Rattle.cleanup_log.proofs.Changes.{call-changes}
 use Rattle.cleanup_log.proofs.RecordedNumbers.{register-recorded-number, land-recorded-number, pop-recorded-number, complete-recorded-number}
 use Rattle.cleanup_log.proofs.RecordedNumbers.{retry-recorded-number}
+use Rattle.cleanup_log.proofs.RecordedApart.{register-recorded-apart, land-recorded-apart, pop-recorded-apart, complete-recorded-apart}
+use Rattle.cleanup_log.proofs.RecordedApart.{retry-recorded-apart, admit-recorded-apart, end-recorded-apart, cancel-recorded-apart}
 use Rattle.cleanup_log.proofs.RecordedNumbers.{admit-recorded-number, end-recorded-number, cancel-recorded-number}
 use Rattle.cleanup_log.proofs.RecordedNumbers.{register-recorded-returns, land-recorded-returns, complete-recorded-returns}
 use Rattle.group_openings.specs.Openings.{newOf}
@@ -48,7 +51,7 @@ use Rattle.history.proofs.WordLogs.{word-logs}
 use Rattle.library_laws.proofs.Sounds.{scope-sound, iterator-sound}
 use Rattle.library_laws.proofs.Sessions.{session-sound, read-back-same}
 use Rattle.library_laws.proofs.NeverOne.{never-one, never-one-asked}
-use Rattle.demands.specs.Demands.{saidBy, orderOf, givenTo, NotRefusedWith0, leftBy, QueueQuestion, asksEmpty, asksIssued, asksPending, asksSettled}
+use Rattle.demands.specs.Demands.{saidBy, orderOf, givenTo, NotRefusedWith0, RecordedNotRefusedWith0, leftBy, QueueQuestion, asksEmpty, asksIssued, asksPending, asksSettled}
 use Rattle.demands.specs.Demands.{asksCancelled, asksFailed, asksRetry, asksFinish, asksDomain, toldTo}
 use Rattle.demands.specs.Demands.{Demand1, Demand2, Demand3, LibraryDemand}
 use Rattle.demands.proofs.GroupTheorems.{one-number-groups, one-number-groups-asked, groups-not-refused-with-0, groups-unchanged, empty-new, blank-get, new-has-root}
@@ -100,6 +103,17 @@ not-refused-with-0 q BenchCall.admitWithout = admit-no-zero q false
 not-refused-with-0 q BenchCall.end = end-no-zero q
 not-refused-with-0 q BenchCall.cancel = cancel-no-zero q
 
+recorded-not-refused-with-0 : (q : Queue) (log : List ℕ) (used : ℕ) (c : BenchCall) → RecordedNotRefusedWith0 q log used c
+recorded-not-refused-with-0 q log used (BenchCall.register n) = register-recorded-apart q log used n
+recorded-not-refused-with-0 q log used (BenchCall.land n) = land-recorded-apart q log used n
+recorded-not-refused-with-0 q log used BenchCall.pop = pop-recorded-apart q log used
+recorded-not-refused-with-0 q log used (BenchCall.complete t o k) = complete-recorded-apart q log used t o k
+recorded-not-refused-with-0 q log used BenchCall.retry = retry-recorded-apart q log used
+recorded-not-refused-with-0 q log used (BenchCall.admit target) = admit-recorded-apart q log used (matches q target)
+recorded-not-refused-with-0 q log used BenchCall.admitWithout = admit-recorded-apart q log used false
+recorded-not-refused-with-0 q log used BenchCall.end = end-recorded-apart q log used
+recorded-not-refused-with-0 q log used BenchCall.cancel = cancel-recorded-apart q log used
+
 nothing-changed : (q : Queue) (c : BenchCall) → RefusedAs q (givenTo c) (saidBy q c) (leftBy q c)
 nothing-changed q (BenchCall.register n) = register-refused q n
 nothing-changed q (BenchCall.land n) = land-refused q n
@@ -118,6 +132,7 @@ demand1 = record {
   oneNumberOpening = opening-number;
   oneNumberRecorded = one-number-recorded;
   refusalIsNot0 = (not-refused-with-0, opening-no-zero);
+  recordedRefusalIsNot0 = recorded-not-refused-with-0;
   nothingChanged = nothing-changed;
   blankOpening = opening-refused;
   nothingChangedRecorded = λ b c. refused-stays b (callOn (b .queue) c);

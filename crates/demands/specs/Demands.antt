@@ -57,7 +57,8 @@ use Rattle.cleanup_groups.specs.Runs.{GroupCall, groupsAfter, groupsAfterAll}
 use Rattle.log_rows.specs.Rows.{rows, flat, written}
 use Rattle.log_rows.specs.Appending.{rowsFit, hasRoom}
 use Rattle.log_births.specs.Births.{registerRecorded, landRecorded}
-use Rattle.log_attempts.specs.Attempts.{completeRecorded}
+use Rattle.log_attempts.specs.Attempts.{popRecorded, completeRecorded, retryRecorded}
+use Rattle.log_stages.specs.Stages.{admitRecorded, endRecorded, cancelRecorded}
 use Rattle.log_language.specs.Readings.{every}
 use Rattle.log_language.specs.FirstBad.{WordsBelong}
 use Rattle.log_reader.specs.Reader.{ReadsAs, readSays, reading, settingOf}
@@ -121,6 +122,18 @@ NotRefusedWith0 q (BenchCall.admit target) = admitted q (matches q target) .answ
 NotRefusedWith0 q BenchCall.admitWithout = admitted q false .answer ≡ Told.Refused done → ⊥
 NotRefusedWith0 q BenchCall.end = ended q .answer ≡ Told.Refused done → ⊥
 NotRefusedWith0 q BenchCall.cancel = cancelledBy q .answer ≡ Cancelled.Refused done → ⊥
+
+-- nor does that of the recorded call
+abbrev pub RecordedNotRefusedWith0 : Queue → List ℕ → ℕ → BenchCall → Type 0
+RecordedNotRefusedWith0 q log used (BenchCall.register n) = (given : ℕ) → registerRecorded q n log used .answer ≡ Registered.Refused done given → ⊥
+RecordedNotRefusedWith0 q log used (BenchCall.land n) = (given : ℕ) → landRecorded q n log used .answer ≡ Registered.Refused done given → ⊥
+RecordedNotRefusedWith0 q log used BenchCall.pop = popRecorded q log used .answer ≡ Popped.Refused done → ⊥
+RecordedNotRefusedWith0 q log used (BenchCall.complete t outcome kept) = (given : ℕ) → completeRecorded q t outcome kept log used .answer ≡ Completed.Refused done given → ⊥
+RecordedNotRefusedWith0 q log used BenchCall.retry = retryRecorded q log used .answer ≡ Retried.Refused done → ⊥
+RecordedNotRefusedWith0 q log used (BenchCall.admit target) = admitRecorded q (matches q target) log used .answer ≡ Told.Refused done → ⊥
+RecordedNotRefusedWith0 q log used BenchCall.admitWithout = admitRecorded q false log used .answer ≡ Told.Refused done → ⊥
+RecordedNotRefusedWith0 q log used BenchCall.end = endRecorded q log used .answer ≡ Told.Refused done → ⊥
+RecordedNotRefusedWith0 q log used BenchCall.cancel = cancelRecorded q log used .answer ≡ Cancelled.Refused done → ⊥
 
 abbrev pub leftBy : Queue → BenchCall → Queue
 leftBy q c = after q (callOn q c)
@@ -339,6 +352,7 @@ pub record Demand1 : Type 0 where
       → numberOf b (callOn (b .queue) c) ≡ firstDue (recordedOrder (length (b .log)) (b .used) (orderOf (b .queue) c) (entryOf (b .queue) (callOn (b .queue) c) .changed))
   -- what is refused is told from what is done by its number
   pub refusalIsNot0 : ((q : Queue) (c : BenchCall) → NotRefusedWith0 q c) × ((o : Opening) → openedAs o .answer ≡ Opened.Refused done → ⊥)
+  pub recordedRefusalIsNot0 : (q : Queue) (log : List ℕ) (used : ℕ) (c : BenchCall) → RecordedNotRefusedWith0 q log used c
   pub nothingChanged : (q : Queue) (c : BenchCall) → RefusedAs q (givenTo c) (saidBy q c) (leftBy q c)
   pub blankOpening : (o : Opening) → RefusedAs blank [] (openedSays (openedAs o .answer)) (openedAs o .queue)
   pub nothingChangedRecorded : (b : Bench) (c : BenchCall) → (numberOf b (callOn (b .queue) c) ≡ done → ⊥) → called b (callOn (b .queue) c) ≡ b
@@ -383,7 +397,7 @@ pub record Demand2 : Type 0 where
   -- on any other id it says 10
   pub noSuchGroup : (g : Groups) (id : ℕ) → SixteenPlaces g → wellGrouped g ≡ true → (IsLive g id → ⊥)
       → ((c : BenchCall) → saidOfGroups g (byId id c) .number ≡ noGroup) × (saidOfGroups g (GroupCall.remove id) .number ≡ noGroup) × ((a : QueueQuestion) → toldById g id a .number ≡ noGroup)
-  -- whatever a call is not for, a live group keeps its whole place
+  -- a live group that a call is not for keeps its whole place
   pub otherGroupsStay : (g : Groups) → SixteenPlaces g → (c : GroupCall) (j : ℕ) → LiveAt g j → isFor c (idAt g j) ≡ false → placeAt (groupsAfter g c) j ≡ placeAt g j
   -- the check says yes to exactly the sound records; a new one has the root alone; from it on, whatever is called, it is sound
   pub checkMeansSound : (g : Groups) → SixteenPlaces g → (wellGrouped g ≡ true) ↔ Sound g
