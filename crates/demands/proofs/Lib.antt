@@ -1,1 +1,2 @@
+pub mod GroupTheorems
 pub mod Theorems

@@ -1,8 +1,10 @@
 -- The three demands hold, and the library's: each field by the law that says it
-use mathlib.Core.Path.{_≡_}
+use Prim.Native.Nat.{ℕ}
+use mathlib.Core.Path.{_≡_, refl}
 use mathlib.Core.Bool.{false}
-use mathlib.Core.List.{[]}
+use mathlib.Core.List.{List, []}
 use lib.ListN.{length}
+use Rattle.queue_record.specs.Refusals.{done}
 use Rattle.queue_record.specs.Openings.{openedAs}
 use Rattle.queue_record.specs.declared.record.Queue.{Queue}
 use Rattle.queue_record.proofs.Opened.{opened-well-formed}
@@ -11,7 +13,8 @@ use Rattle.cleanup_queue.specs.Orders.{firstDue, RefusedAs, brokenOnly}
 use Rattle.cleanup_queue.proofs.Numbers.{opening-number, register-number, land-number, pop-number, complete-number, retry-number, questions-number}
 use Rattle.cleanup_queue.proofs.Numbers.{admit-number, end-number, cancel-number, domain-number}
 use Rattle.cleanup_queue.proofs.Said.{opening-refused, register-refused, land-refused, pop-refused, complete-refused, retry-refused, admit-refused}
-use Rattle.cleanup_queue.proofs.Said.{end-refused, cancel-refused}
+use Rattle.cleanup_queue.proofs.Said.{end-refused, cancel-refused, opening-no-zero, register-no-zero, land-no-zero, pop-no-zero, complete-no-zero}
+use Rattle.cleanup_queue.proofs.Said.{retry-no-zero, admit-no-zero, end-no-zero, cancel-no-zero}
 use Rattle.cleanup_queue.proofs.HandsOut.{pop-exactly, pop-hands}
 use Rattle.cleanup_queue.proofs.Upstream.{waiting-rises}
 use Rattle.cleanup_queue.proofs.Waits.{register-appends, land-appends, fresh-pop-drops}
@@ -23,8 +26,20 @@ use Rattle.cleanup_log.specs.Entries.{entryOf}
 use Rattle.cleanup_log.proofs.Changes.{call-changes}
 use Rattle.cleanup_log.proofs.RecordedNumbers.{register-recorded-number, land-recorded-number, pop-recorded-number, complete-recorded-number}
 use Rattle.cleanup_log.proofs.RecordedNumbers.{retry-recorded-number}
+use Rattle.cleanup_log.proofs.RecordedApart.{register-recorded-apart, land-recorded-apart, pop-recorded-apart, complete-recorded-apart}
+use Rattle.cleanup_log.proofs.RecordedApart.{retry-recorded-apart, admit-recorded-apart, end-recorded-apart, cancel-recorded-apart}
 use Rattle.cleanup_log.proofs.RecordedNumbers.{admit-recorded-number, end-recorded-number, cancel-recorded-number}
 use Rattle.cleanup_log.proofs.RecordedNumbers.{register-recorded-returns, land-recorded-returns, complete-recorded-returns}
+use Rattle.group_openings.specs.Openings.{newOf}
+use Rattle.cleanup_groups.specs.Promises.{idAt}
+use Rattle.cleanup_groups.proofs.Numbers.{new-number}
+use Rattle.cleanup_groups.proofs.Sounds.{sound-means, means-sound}
+use Rattle.cleanup_groups.proofs.Keeps as groups
+use Rattle.cleanup_groups.proofs.Live.{accepts-as}
+use Rattle.cleanup_groups.proofs.Ids.{gone-stays, closed-for-good, domains-differ}
+use Rattle.cleanup_groups.proofs.Rounds.{round-no}
+use Rattle.cleanup_groups.proofs.Upstream.{scope-as, iterator-as}
+use Rattle.cleanup_groups.proofs.Says.{len-says, new-numbered, get-numbered}
 use Rattle.log_reader.proofs.ReaderLanguage.{reader-language}
 use Rattle.log_reader.proofs.Unique.{reads-one}
 use Rattle.history.specs.Histories.{Bench, numberOf}
@@ -33,10 +48,15 @@ use Rattle.history.proofs.Written.{refused-stays, goes}
 use Rattle.history.proofs.Accepts.{history-read, bad-read}
 use Rattle.history.proofs.Demand.{same-record}
 use Rattle.history.proofs.WordLogs.{word-logs}
+use Rattle.library_laws.proofs.Sounds.{scope-sound, iterator-sound}
 use Rattle.library_laws.proofs.Sessions.{session-sound, read-back-same}
-use Rattle.demands.specs.Demands.{saidBy, orderOf, givenTo, leftBy, QueueQuestion, asksEmpty, asksIssued, asksPending, asksSettled}
+use Rattle.library_laws.proofs.NeverOne.{never-one, never-one-asked}
+use Rattle.demands.specs.Demands.{saidBy, orderOf, givenTo, NotRefusedWith0, RecordedNotRefusedWith0, leftBy, QueueQuestion, asksEmpty, asksIssued, asksPending, asksSettled}
 use Rattle.demands.specs.Demands.{asksCancelled, asksFailed, asksRetry, asksFinish, asksDomain, toldTo}
 use Rattle.demands.specs.Demands.{Demand1, Demand2, Demand3, LibraryDemand}
+use Rattle.demands.proofs.GroupTheorems.{one-number-groups, one-number-groups-asked, groups-not-refused-with-0, groups-unchanged, empty-new, blank-get, new-has-root}
+use Rattle.demands.proofs.GroupTheorems.{group-as-queue, asked-as-queue, get-gives, no-such-group, other-groups-stay, closes-exactly, close-frees}
+use Rattle.demands.proofs.GroupTheorems.{seals-exactly, sealed-for-good, round-exactly, round-retries, round-keeps-place, yes-means}
 
 one-number : (q : Queue) (c : BenchCall) → saidBy q c .number ≡ firstDue (orderOf q c)
 one-number q (BenchCall.register n) = register-number q n
@@ -72,6 +92,28 @@ one-number-recorded b BenchCall.admitWithout = admit-recorded-number (b .queue) 
 one-number-recorded b BenchCall.end = end-recorded-number (b .queue) (b .log) (b .used)
 one-number-recorded b BenchCall.cancel = cancel-recorded-number (b .queue) (b .log) (b .used)
 
+not-refused-with-0 : (q : Queue) (c : BenchCall) → NotRefusedWith0 q c
+not-refused-with-0 q (BenchCall.register n) = register-no-zero q n
+not-refused-with-0 q (BenchCall.land n) = land-no-zero q n
+not-refused-with-0 q BenchCall.pop = pop-no-zero q
+not-refused-with-0 q (BenchCall.complete t o k) = complete-no-zero q t o k
+not-refused-with-0 q BenchCall.retry = retry-no-zero q
+not-refused-with-0 q (BenchCall.admit target) = admit-no-zero q (matches q target)
+not-refused-with-0 q BenchCall.admitWithout = admit-no-zero q false
+not-refused-with-0 q BenchCall.end = end-no-zero q
+not-refused-with-0 q BenchCall.cancel = cancel-no-zero q
+
+recorded-not-refused-with-0 : (q : Queue) (log : List ℕ) (used : ℕ) (c : BenchCall) → RecordedNotRefusedWith0 q log used c
+recorded-not-refused-with-0 q log used (BenchCall.register n) = register-recorded-apart q log used n
+recorded-not-refused-with-0 q log used (BenchCall.land n) = land-recorded-apart q log used n
+recorded-not-refused-with-0 q log used BenchCall.pop = pop-recorded-apart q log used
+recorded-not-refused-with-0 q log used (BenchCall.complete t o k) = complete-recorded-apart q log used t o k
+recorded-not-refused-with-0 q log used BenchCall.retry = retry-recorded-apart q log used
+recorded-not-refused-with-0 q log used (BenchCall.admit target) = admit-recorded-apart q log used (matches q target)
+recorded-not-refused-with-0 q log used BenchCall.admitWithout = admit-recorded-apart q log used false
+recorded-not-refused-with-0 q log used BenchCall.end = end-recorded-apart q log used
+recorded-not-refused-with-0 q log used BenchCall.cancel = cancel-recorded-apart q log used
+
 nothing-changed : (q : Queue) (c : BenchCall) → RefusedAs q (givenTo c) (saidBy q c) (leftBy q c)
 nothing-changed q (BenchCall.register n) = register-refused q n
 nothing-changed q (BenchCall.land n) = land-refused q n
@@ -89,10 +131,19 @@ demand1 = record {
   oneNumberAsked = one-number-asked;
   oneNumberOpening = opening-number;
   oneNumberRecorded = one-number-recorded;
+  refusalIsNot0 = (not-refused-with-0, opening-no-zero);
+  recordedRefusalIsNot0 = recorded-not-refused-with-0;
   nothingChanged = nothing-changed;
   blankOpening = opening-refused;
   nothingChangedRecorded = λ b c. refused-stays b (callOn (b .queue) c);
   givenBackRecorded = λ q log used. (register-recorded-returns q log used, land-recorded-returns q log used, complete-recorded-returns q log used);
+  oneNumberGroups = one-number-groups;
+  oneNumberGroupsAsked = one-number-groups-asked;
+  oneNumberNew = new-number;
+  groupsRefusalIsNot0 = (groups-not-refused-with-0, λ base e. new-numbered base done e refl, λ g id e. get-numbered g id done e refl);
+  groupsUnchanged = groups-unchanged;
+  emptyNew = empty-new;
+  blankGet = blank-get;
 }
 
 pub demand2 : Demand2
@@ -108,6 +159,29 @@ demand2 = record {
   staysSound = λ o cs. run-keeps (openedAs o .queue) cs (opened-well-formed o);
   attemptsExactly = attempts-exactly;
   tokensExactly = tokens-exactly;
+  groupAsQueue = group-as-queue;
+  groupAskedAsQueue = asked-as-queue;
+  acceptsMeans = λ g i p. accepts-as g (idAt g i) i (p .places) (p .sound) (p .inside) (p .live) refl;
+  getGives = get-gives;
+  noSuchGroup = no-such-group;
+  otherGroupsStay = other-groups-stay;
+  checkMeansSound = λ g l. (sound-means g l, means-sound g l);
+  newHasRoot = new-has-root;
+  groupsStaySound = λ base cs. let l = groups.new-whole base in (groups.run-keeps (newOf base .groups) cs l (groups.new-keeps base), groups.run-whole (newOf base .groups) cs l);
+  openedGroup = λ g l n. (scope-as g l n, λ bindings h. iterator-as g l n bindings h .1);
+  goneForGood = gone-stays;
+  closedForGood = closed-for-good;
+  domainsDiffer = λ g i j p r. domains-differ g (p .places) (p .sound) i j (p .inside) (r .inside) (p .live) (r .live);
+  closesExactly = λ g id l. closes-exactly g l id;
+  closeFrees = λ g i p. close-frees g (p .places) i p;
+  sealsExactly = seals-exactly;
+  sealedForGood = sealed-for-good;
+  roundExactly = round-exactly;
+  roundElseNothing = round-no;
+  roundRetries = round-retries;
+  roundKeeps = round-keeps-place;
+  yesMeans = yes-means;
+  lenTells = len-says;
 }
 
 pub demand3 : Demand3
@@ -123,4 +197,10 @@ demand3 = record {
 }
 
 pub library-demand : LibraryDemand
-library-demand = record { neverBroken = session-sound; sameWords = read-back-same }
+library-demand = record {
+  opensSound = λ s domain first bindings. (scope-sound domain first, iterator-sound domain first bindings);
+  neverBroken = session-sound;
+  neverOne = never-one;
+  neverOneAsked = never-one-asked;
+  sameWords = read-back-same;
+}

@@ -1,15 +1,17 @@
 -- The three demands, a field for each sentence, over the definitions that the contracts of the public calls cite
-use Prim.Native.Nat.{ℕ, _+_, _≤_}
+use Prim.Native.Nat.{ℕ, _+_, _<_, _≤_}
 use mathlib.Core.Path.{_≡_}
 use mathlib.Core.Logic.{_↔_}
-use mathlib.Core.Bool.{true, false}
+use mathlib.Core.Bool.{Bool, true, false, not}
 use mathlib.Core.List.{List, [], _∷_}
+use lib.Dec.{eqb}
 use lib.ListN.{length, take}
 use Rattle.queue_record.specs.Record.{Sized}
-use Rattle.queue_record.specs.Refusals.{done, badLog}
+use Rattle.stage.specs.Phases.{isPending, isCancelled}
+use Rattle.queue_record.specs.Refusals.{done, broken, noGroup, badLog}
 use Rattle.queue_record.specs.WellFormed.{wellFormed}
 use Rattle.queue_record.specs.Waiting.{waiting}
-use Rattle.queue_record.specs.Openings.{Opening, blank, iteratorOf, openedAs}
+use Rattle.queue_record.specs.Openings.{Opening, blank, scopeOf, iteratorOf, openedAs}
 use Rattle.queue_record.specs.declared.record.Ticket.{Ticket}
 use Rattle.queue_record.specs.declared.record.Queue.{Queue}
 use Rattle.queue_record.specs.declared.openings.Opened.{Opened}
@@ -17,20 +19,46 @@ use Rattle.queue_decisions.specs.Slots.{noMore}
 use Rattle.queue_births.specs.Births.{registered, landed}
 use Rattle.queue_steps.specs.Attempts.{popped, completed, retried}
 use Rattle.queue_births.specs.declared.births.Registered.{Registered}
+use Rattle.queue_steps.specs.declared.attempts.Popped.{Popped}
 use Rattle.queue_steps.specs.declared.attempts.Popped.the-variants.{Work}
 use Rattle.queue_steps.specs.declared.attempts.Completed.{Completed}
+use Rattle.queue_steps.specs.declared.attempts.Retried.{Retried}
 use Rattle.queue_stages.specs.Stages.{admitted, ended, cancelledBy}
-use Rattle.queue_questions.specs.Questions.{matches, isEmptyTold, isIssuedTold, isPendingTold, isSettledTold, isCancelledTold, hasFailedTold, canRetryTold, canFinishTold, domainTold}
+use Rattle.queue_stages.specs.declared.stages.Cancelled.{Cancelled}
+use Rattle.queue_questions.specs.Questions.{yesOrNo, matches, isEmptyTold, isIssuedTold, isPendingTold, isSettledTold, isCancelledTold, hasFailedTold, canRetryTold, canFinishTold, domainTold}
+use Rattle.queue_questions.specs.declared.questions.Told.{Told}
 use Rattle.queue_questions.specs.declared.questions.Told.the-variants.{Yes}
-use Rattle.cleanup_queue.specs.Answers.{Said, openedSays, registeredSays, poppedSays, completedSays, retriedSays, toldSays, cancelledSays, domainSays}
+use Rattle.cleanup_queue.specs.Answers.{Said, says, openedSays, registeredSays, poppedSays, completedSays, retriedSays, toldSays, cancelledSays, domainSays}
 use Rattle.cleanup_queue.specs.Orders.{Ground, firstDue, RefusedAs, openingOrder, registerOrder, landOrder, popOrder, completeOrder, retryOrder, brokenOnly}
 use Rattle.cleanup_queue.specs.Parts.{OpenedParts, Appends, Drops}
 use Rattle.cleanup_queue.specs.Promises.{handsOut, mayHandOut, HandedOut, Finishable}
 use Rattle.cleanup_queue.specs.Runs.{Call, after, afterAll, attempts, tokens, Rising, Counts}
+use Rattle.group_record.specs.Record.{placeAt, queueAt, freePlace, withPlace, withQueue, withOpened, emptyOf}
+use Rattle.group_record.specs.declared.record.Groups.{Groups}
+use Rattle.group_asking.specs.Questions.{stuck, finishes}
+use Rattle.group_check.specs.WellFormed.{lastBase, wellGrouped}
+use Rattle.group_check.specs.Count.{liveCount}
+use Rattle.group_check.specs.Ids.{got}
+use Rattle.group_check.specs.declared.ids.Got.{Got}
+use Rattle.group_questions.specs.ById.{isEmptyIn, isIssuedIn, isPendingIn, isSettledIn, isCancelledIn, hasFailedIn, canRetryIn, canFinishIn, domainIn, acceptsIn}
+use Rattle.group_survey.specs.Whole.{containsTold, isEmptyOf, hasPendingOf, hasIssuedOf, hasFailedOf, canRetryAllOf, canFinishOf, canSealOf, canAddOf, lenOf}
+use Rattle.group_openings.specs.Openings.{newOf, nextDomain, addedScope, addedIterator}
+use Rattle.group_openings.specs.declared.openings.Added.{Added}
+use Rattle.group_endings.specs.Endings.{removed, sealedIn}
+use Rattle.group_endings.specs.declared.endings.Closed.{Closed}
+use Rattle.group_steps.specs.Births.{registeredIn, landedIn}
+use Rattle.group_steps.specs.Attempts.{poppedIn, completedIn, retriedIn}
+use Rattle.group_stages.specs.Stages.{admittedIn, admittedInWithout, endedIn, cancelledIn}
+use Rattle.group_rounds.specs.Rounds.{retriedAll}
+use Rattle.cleanup_groups.specs.Answers.{addedSays, closedSays, lenSays, gotSays}
+use Rattle.cleanup_groups.specs.Orders.{newOrder, openOrder, idOrder, stepOrder, recordOrder, closeOrder, sealOrder}
+use Rattle.cleanup_groups.specs.Promises.{LiveAt, idAt, IsLive, SomeLive, EveryLive, DrainedQueue, AddedAs, Sound}
+use Rattle.cleanup_groups.specs.Runs.{GroupCall, groupsAfter, groupsAfterAll}
 use Rattle.log_rows.specs.Rows.{rows, flat, written}
 use Rattle.log_rows.specs.Appending.{rowsFit, hasRoom}
 use Rattle.log_births.specs.Births.{registerRecorded, landRecorded}
-use Rattle.log_attempts.specs.Attempts.{completeRecorded}
+use Rattle.log_attempts.specs.Attempts.{popRecorded, completeRecorded, retryRecorded}
+use Rattle.log_stages.specs.Stages.{admitRecorded, endRecorded, cancelRecorded}
 use Rattle.log_language.specs.Readings.{every}
 use Rattle.log_language.specs.FirstBad.{WordsBelong}
 use Rattle.log_reader.specs.Reader.{ReadsAs, readSays, reading, settingOf}
@@ -45,7 +73,8 @@ use Rattle.history.specs.Benches.{BenchCall, callOn, WordOpening, LeftIn}
 use Rattle.queue_words.specs.Words.{isSound}
 use Rattle.queue_words.specs.Exported.{Exported}
 use Rattle.gulberzan_c.specs.ReadBack.{ReadOn}
-use Rattle.library_laws.specs.Sessions.{Session, LibraryCall, sessionAfterAll, openingBy, Recorder, usedWords}
+use Rattle.library_laws.specs.Sessions.{Session, LibraryCall, sessionAfter, sessionAfterAll, openingBy, Recorder, usedWords}
+use Rattle.library_laws.specs.Results.{WordQuestion, askedOn, Returned, IsOne}
 
 -- ---- the calls of a queue that may change it, each with its inputs: what one says, in which order it refuses, what it was given
 abbrev pub saidBy : Queue → BenchCall → Said
@@ -82,6 +111,30 @@ givenTo BenchCall.admitWithout = []
 givenTo BenchCall.end = []
 givenTo BenchCall.cancel = []
 
+-- its refusal never has the number 0, which says done
+abbrev pub NotRefusedWith0 : Queue → BenchCall → Type 0
+NotRefusedWith0 q (BenchCall.register n) = (given : ℕ) → registered q n .answer ≡ Registered.Refused done given → ⊥
+NotRefusedWith0 q (BenchCall.land n) = (given : ℕ) → landed q n .answer ≡ Registered.Refused done given → ⊥
+NotRefusedWith0 q BenchCall.pop = popped q .answer ≡ Popped.Refused done → ⊥
+NotRefusedWith0 q (BenchCall.complete t outcome kept) = (given : ℕ) → completed q t outcome kept .answer ≡ Completed.Refused done given → ⊥
+NotRefusedWith0 q BenchCall.retry = retried q .answer ≡ Retried.Refused done → ⊥
+NotRefusedWith0 q (BenchCall.admit target) = admitted q (matches q target) .answer ≡ Told.Refused done → ⊥
+NotRefusedWith0 q BenchCall.admitWithout = admitted q false .answer ≡ Told.Refused done → ⊥
+NotRefusedWith0 q BenchCall.end = ended q .answer ≡ Told.Refused done → ⊥
+NotRefusedWith0 q BenchCall.cancel = cancelledBy q .answer ≡ Cancelled.Refused done → ⊥
+
+-- nor does that of the recorded call
+abbrev pub RecordedNotRefusedWith0 : Queue → List ℕ → ℕ → BenchCall → Type 0
+RecordedNotRefusedWith0 q log used (BenchCall.register n) = (given : ℕ) → registerRecorded q n log used .answer ≡ Registered.Refused done given → ⊥
+RecordedNotRefusedWith0 q log used (BenchCall.land n) = (given : ℕ) → landRecorded q n log used .answer ≡ Registered.Refused done given → ⊥
+RecordedNotRefusedWith0 q log used BenchCall.pop = popRecorded q log used .answer ≡ Popped.Refused done → ⊥
+RecordedNotRefusedWith0 q log used (BenchCall.complete t outcome kept) = (given : ℕ) → completeRecorded q t outcome kept log used .answer ≡ Completed.Refused done given → ⊥
+RecordedNotRefusedWith0 q log used BenchCall.retry = retryRecorded q log used .answer ≡ Retried.Refused done → ⊥
+RecordedNotRefusedWith0 q log used (BenchCall.admit target) = admitRecorded q (matches q target) log used .answer ≡ Told.Refused done → ⊥
+RecordedNotRefusedWith0 q log used BenchCall.admitWithout = admitRecorded q false log used .answer ≡ Told.Refused done → ⊥
+RecordedNotRefusedWith0 q log used BenchCall.end = endRecorded q log used .answer ≡ Told.Refused done → ⊥
+RecordedNotRefusedWith0 q log used BenchCall.cancel = cancelRecorded q log used .answer ≡ Cancelled.Refused done → ⊥
+
 abbrev pub leftBy : Queue → BenchCall → Queue
 leftBy q c = after q (callOn q c)
 
@@ -108,6 +161,187 @@ toldTo q asksRetry = toldSays (canRetryTold q)
 toldTo q (asksFinish target) = toldSays (canFinishTold q target)
 toldTo q asksDomain = domainSays (domainTold q)
 
+-- ---- the calls of the groups that may change their record: what one says, in which order it refuses, what it was given
+abbrev pub saidOfGroups : Groups → GroupCall → Said
+saidOfGroups g GroupCall.addScope = addedSays (addedScope g .answer)
+saidOfGroups g (GroupCall.addIterator bindings) = addedSays (addedIterator g bindings .answer)
+saidOfGroups g (GroupCall.remove id) = closedSays (removed g id .answer)
+saidOfGroups g GroupCall.seal = closedSays (sealedIn g .answer)
+saidOfGroups g (GroupCall.register id n) = registeredSays (registeredIn g id n .answer)
+saidOfGroups g (GroupCall.land id n) = registeredSays (landedIn g id n .answer)
+saidOfGroups g (GroupCall.pop id) = poppedSays (poppedIn g id .answer)
+saidOfGroups g (GroupCall.complete id t outcome kept) = completedSays (completedIn g id t outcome kept .answer)
+saidOfGroups g (GroupCall.retry id) = retriedSays (retriedIn g id .answer)
+saidOfGroups g (GroupCall.admit id target) = toldSays (admittedIn g id target .answer)
+saidOfGroups g (GroupCall.admitWithout id) = toldSays (admittedInWithout g id .answer)
+saidOfGroups g (GroupCall.end id) = toldSays (endedIn g id .answer)
+saidOfGroups g (GroupCall.cancel id) = cancelledSays (cancelledIn g id .answer)
+saidOfGroups g GroupCall.retryAll = toldSays (retriedAll g .answer)
+
+abbrev pub groupsOrder : Groups → GroupCall → List Ground
+groupsOrder g GroupCall.addScope = openOrder g []
+groupsOrder g (GroupCall.addIterator bindings) = openOrder g bindings
+groupsOrder g (GroupCall.remove id) = closeOrder g id
+groupsOrder g GroupCall.seal = sealOrder g
+groupsOrder g (GroupCall.register id n) = stepOrder g id (λ q. registerOrder q n)
+groupsOrder g (GroupCall.land id n) = stepOrder g id (λ q. landOrder q n)
+groupsOrder g (GroupCall.pop id) = stepOrder g id popOrder
+groupsOrder g (GroupCall.complete id t outcome kept) = stepOrder g id (λ q. completeOrder q t outcome kept)
+groupsOrder g (GroupCall.retry id) = stepOrder g id retryOrder
+groupsOrder g (GroupCall.admit id target) = stepOrder g id brokenOnly
+groupsOrder g (GroupCall.admitWithout id) = stepOrder g id brokenOnly
+groupsOrder g (GroupCall.end id) = stepOrder g id brokenOnly
+groupsOrder g (GroupCall.cancel id) = stepOrder g id brokenOnly
+groupsOrder g GroupCall.retryAll = recordOrder g
+
+-- the undo number that it was given
+abbrev pub givenToGroups : GroupCall → List ℕ
+givenToGroups GroupCall.addScope = []
+givenToGroups (GroupCall.addIterator bindings) = []
+givenToGroups (GroupCall.remove id) = []
+givenToGroups GroupCall.seal = []
+givenToGroups (GroupCall.register id n) = n ∷ []
+givenToGroups (GroupCall.land id n) = n ∷ []
+givenToGroups (GroupCall.pop id) = []
+givenToGroups (GroupCall.complete id t outcome kept) = kept ∷ []
+givenToGroups (GroupCall.retry id) = []
+givenToGroups (GroupCall.admit id target) = []
+givenToGroups (GroupCall.admitWithout id) = []
+givenToGroups (GroupCall.end id) = []
+givenToGroups (GroupCall.cancel id) = []
+givenToGroups GroupCall.retryAll = []
+
+-- its refusal never has the number 0
+abbrev pub GroupsNotRefusedWith0 : Groups → GroupCall → Type 0
+GroupsNotRefusedWith0 g GroupCall.addScope = addedScope g .answer ≡ Added.Refused done → ⊥
+GroupsNotRefusedWith0 g (GroupCall.addIterator bindings) = addedIterator g bindings .answer ≡ Added.Refused done → ⊥
+GroupsNotRefusedWith0 g (GroupCall.remove id) = removed g id .answer ≡ Closed.Refused done → ⊥
+GroupsNotRefusedWith0 g GroupCall.seal = sealedIn g .answer ≡ Closed.Refused done → ⊥
+GroupsNotRefusedWith0 g (GroupCall.register id n) = (given : ℕ) → registeredIn g id n .answer ≡ Registered.Refused done given → ⊥
+GroupsNotRefusedWith0 g (GroupCall.land id n) = (given : ℕ) → landedIn g id n .answer ≡ Registered.Refused done given → ⊥
+GroupsNotRefusedWith0 g (GroupCall.pop id) = poppedIn g id .answer ≡ Popped.Refused done → ⊥
+GroupsNotRefusedWith0 g (GroupCall.complete id t outcome kept) = (given : ℕ) → completedIn g id t outcome kept .answer ≡ Completed.Refused done given → ⊥
+GroupsNotRefusedWith0 g (GroupCall.retry id) = retriedIn g id .answer ≡ Retried.Refused done → ⊥
+GroupsNotRefusedWith0 g (GroupCall.admit id target) = admittedIn g id target .answer ≡ Told.Refused done → ⊥
+GroupsNotRefusedWith0 g (GroupCall.admitWithout id) = admittedInWithout g id .answer ≡ Told.Refused done → ⊥
+GroupsNotRefusedWith0 g (GroupCall.end id) = endedIn g id .answer ≡ Told.Refused done → ⊥
+GroupsNotRefusedWith0 g (GroupCall.cancel id) = cancelledIn g id .answer ≡ Cancelled.Refused done → ⊥
+GroupsNotRefusedWith0 g GroupCall.retryAll = retriedAll g .answer ≡ Told.Refused done → ⊥
+
+-- where an answer's number is not 0, its values are those given back, and the record with it is g
+abbrev pub GroupsRefusedAs : Groups → List ℕ → Said → Groups → Type 0
+GroupsRefusedAs g back s h = (s .number ≡ done → ⊥) → (s .values ≡ back) × (h ≡ g)
+
+-- the group's call that a queue's call is, with the group's id
+abbrev pub byId : ℕ → BenchCall → GroupCall
+byId id (BenchCall.register n) = GroupCall.register id n
+byId id (BenchCall.land n) = GroupCall.land id n
+byId id BenchCall.pop = GroupCall.pop id
+byId id (BenchCall.complete t outcome kept) = GroupCall.complete id t outcome kept
+byId id BenchCall.retry = GroupCall.retry id
+byId id (BenchCall.admit target) = GroupCall.admit id target
+byId id BenchCall.admitWithout = GroupCall.admitWithout id
+byId id BenchCall.end = GroupCall.end id
+byId id BenchCall.cancel = GroupCall.cancel id
+
+-- whether a call is for the group of this id: seal and retry_all are for every group, an opening is for none that is live
+abbrev pub isFor : GroupCall → ℕ → Bool
+isFor GroupCall.addScope id = false
+isFor (GroupCall.addIterator bindings) id = false
+isFor (GroupCall.remove at) id = eqb id at
+isFor GroupCall.seal id = true
+isFor (GroupCall.register at n) id = eqb id at
+isFor (GroupCall.land at n) id = eqb id at
+isFor (GroupCall.pop at) id = eqb id at
+isFor (GroupCall.complete at t outcome kept) id = eqb id at
+isFor (GroupCall.retry at) id = eqb id at
+isFor (GroupCall.admit at target) id = eqb id at
+isFor (GroupCall.admitWithout at) id = eqb id at
+isFor (GroupCall.end at) id = eqb id at
+isFor (GroupCall.cancel at) id = eqb id at
+isFor GroupCall.retryAll id = true
+
+-- ---- the calls of the groups that only ask
+-- a queue's question, put to the group of an id
+abbrev pub toldById : Groups → ℕ → QueueQuestion → Said
+toldById g id asksEmpty = toldSays (isEmptyIn g id)
+toldById g id asksIssued = toldSays (isIssuedIn g id)
+toldById g id asksPending = toldSays (isPendingIn g id)
+toldById g id asksSettled = toldSays (isSettledIn g id)
+toldById g id asksCancelled = toldSays (isCancelledIn g id)
+toldById g id asksFailed = toldSays (hasFailedIn g id)
+toldById g id asksRetry = toldSays (canRetryIn g id)
+toldById g id (asksFinish target) = toldSays (canFinishIn g id target)
+toldById g id asksDomain = domainSays (domainIn g id)
+
+-- a yes-or-no question to the whole record: contains, is_empty, has_pending, has_issued, has_failed, can_retry_all, can_finish, can_seal, can_add
+pub data RecordQuestion : Type 0 where
+  asksContains : ℕ → RecordQuestion
+  asksNoneLive : RecordQuestion
+  asksSomePending : RecordQuestion
+  asksSomeIssued : RecordQuestion
+  asksSomeFailed : RecordQuestion
+  asksRetryAll : RecordQuestion
+  asksAllFinish : List ℕ → RecordQuestion
+  asksSeal : RecordQuestion
+  asksRoom : RecordQuestion
+
+abbrev pub recordTold : Groups → RecordQuestion → Told
+recordTold g (asksContains id) = containsTold g id
+recordTold g asksNoneLive = isEmptyOf g
+recordTold g asksSomePending = hasPendingOf g
+recordTold g asksSomeIssued = hasIssuedOf g
+recordTold g asksSomeFailed = hasFailedOf g
+recordTold g asksRetryAll = canRetryAllOf g
+recordTold g (asksAllFinish target) = canFinishOf g target
+recordTold g asksSeal = canSealOf g
+recordTold g asksRoom = canAddOf g
+
+-- what a yes to it means
+abbrev pub YesMeans : Groups → RecordQuestion → Type 0
+YesMeans g (asksContains id) = IsLive g id
+YesMeans g asksNoneLive = (i : ℕ) → i < 16 → placeAt g i .live ≡ false
+YesMeans g asksSomePending = SomeLive g (λ id q. isPending (q .phase))
+YesMeans g asksSomeIssued = SomeLive g (λ id q. q .issued)
+YesMeans g asksSomeFailed = SomeLive g (λ id q. q .failed)
+YesMeans g asksRetryAll = SomeLive g (λ id q. q .failed) × EveryLive g (λ id q. not (stuck q))
+YesMeans g (asksAllFinish target) = EveryLive g (λ id q. finishes id q target)
+YesMeans g asksSeal = (i : ℕ) → i < 16 → LiveAt g i → DrainedQueue (queueAt g i)
+YesMeans g asksRoom = addedScope g .answer ≡ Added.Id (g .next)
+
+-- any question: one to a group, accepts_acquisition, get, one to the record, and len
+pub data GroupQuestion : Type 0 where
+  asksGroup : ℕ → QueueQuestion → GroupQuestion
+  asksAccepts : ℕ → GroupQuestion
+  asksQueue : ℕ → GroupQuestion
+  asksRecord : RecordQuestion → GroupQuestion
+  asksLen : GroupQuestion
+
+abbrev pub groupsTold : Groups → GroupQuestion → Said
+groupsTold g (asksGroup id a) = toldById g id a
+groupsTold g (asksAccepts id) = toldSays (acceptsIn g id)
+groupsTold g (asksQueue id) = gotSays (got g id .answer)
+groupsTold g (asksRecord a) = toldSays (recordTold g a)
+groupsTold g asksLen = lenSays (lenOf g)
+
+abbrev pub groupsAskedOrder : Groups → GroupQuestion → List Ground
+groupsAskedOrder g (asksGroup id a) = stepOrder g id brokenOnly
+groupsAskedOrder g (asksAccepts id) = stepOrder g id brokenOnly
+groupsAskedOrder g (asksQueue id) = idOrder g id
+groupsAskedOrder g (asksRecord a) = recordOrder g
+groupsAskedOrder g asksLen = recordOrder g
+
+-- ---- a group record of the code has sixteen places, by its array's type; a law that looks for a place asks for that
+abbrev pub SixteenPlaces : Groups → Type 0
+SixteenPlaces g = length (g .places) ≡ 16
+
+-- a sound record of sixteen places, and in it the live place i
+pub record LiveGroup (g : Groups) (i : ℕ) : Type 0 where
+  pub places : SixteenPlaces g
+  pub sound : wellGrouped g ≡ true
+  pub inside : i < 16
+  pub live : LiveAt g i
+
 -- ---- demand 1: every record and every input gets one answer, a refusal has one number, changes nothing and gives the number back.
 -- That each call ends, on every input, is what its contract says by asking for nothing
 pub record Demand1 : Type 0 where
@@ -116,12 +350,24 @@ pub record Demand1 : Type 0 where
   pub oneNumberOpening : (o : Opening) → openedSays (openedAs o .answer) .number ≡ firstDue (openingOrder o)
   pub oneNumberRecorded : (b : Bench) (c : BenchCall)
       → numberOf b (callOn (b .queue) c) ≡ firstDue (recordedOrder (length (b .log)) (b .used) (orderOf (b .queue) c) (entryOf (b .queue) (callOn (b .queue) c) .changed))
+  -- what is refused is told from what is done by its number
+  pub refusalIsNot0 : ((q : Queue) (c : BenchCall) → NotRefusedWith0 q c) × ((o : Opening) → openedAs o .answer ≡ Opened.Refused done → ⊥)
+  pub recordedRefusalIsNot0 : (q : Queue) (log : List ℕ) (used : ℕ) (c : BenchCall) → RecordedNotRefusedWith0 q log used c
   pub nothingChanged : (q : Queue) (c : BenchCall) → RefusedAs q (givenTo c) (saidBy q c) (leftBy q c)
   pub blankOpening : (o : Opening) → RefusedAs blank [] (openedSays (openedAs o .answer)) (openedAs o .queue)
   pub nothingChangedRecorded : (b : Bench) (c : BenchCall) → (numberOf b (callOn (b .queue) c) ≡ done → ⊥) → called b (callOn (b .queue) c) ≡ b
   pub givenBackRecorded : (q : Queue) (log : List ℕ) (used : ℕ) → ((n refusal given : ℕ) → registerRecorded q n log used .answer ≡ Registered.Refused refusal given → given ≡ n)
       × ((n refusal given : ℕ) → landRecorded q n log used .answer ≡ Registered.Refused refusal given → given ≡ n)
       × ((t : Ticket) (outcome kept refusal given : ℕ) → completeRecorded q t outcome kept log used .answer ≡ Completed.Refused refusal given → given ≡ kept)
+  -- the groups: every call, every question, a new record; what a refused one leaves, and what stands beside a refused get
+  pub oneNumberGroups : (g : Groups) (c : GroupCall) → saidOfGroups g c .number ≡ firstDue (groupsOrder g c)
+  pub oneNumberGroupsAsked : (g : Groups) (a : GroupQuestion) → groupsTold g a .number ≡ firstDue (groupsAskedOrder g a)
+  pub oneNumberNew : (base : ℕ) → openedSays (newOf base .answer) .number ≡ firstDue (newOrder base)
+  pub groupsRefusalIsNot0 : ((g : Groups) (c : GroupCall) → GroupsNotRefusedWith0 g c) × ((base : ℕ) → newOf base .answer ≡ Opened.Refused done → ⊥)
+      × ((g : Groups) (id : ℕ) → got g id .answer ≡ Got.Refused done → ⊥)
+  pub groupsUnchanged : (g : Groups) (c : GroupCall) → GroupsRefusedAs g (givenToGroups c) (saidOfGroups g c) (groupsAfter g c)
+  pub emptyNew : (base : ℕ) → GroupsRefusedAs (emptyOf 0) [] (openedSays (newOf base .answer)) (newOf base .groups)
+  pub blankGet : (g : Groups) (id : ℕ) → RefusedAs blank [] (gotSays (got g id .answer)) (got g id .queue)
 
 -- ---- demand 2: what the calls' equations come to
 pub record Demand2 : Type 0 where
@@ -142,6 +388,45 @@ pub record Demand2 : Type 0 where
   pub attemptsExactly : (o : Opening) → openedAs o .answer ≡ Opened.Open → o .heading .first ≤ noMore → (cs : List Call)
       → Counts (o .heading .first) noMore (attempts (openedAs o .queue) cs)
   pub tokensExactly : (o : Opening) → openedAs o .answer ≡ Opened.Open → (cs : List Call) → Counts 0 64 (tokens (openedAs o .queue) cs)
+  -- the groups. A call on a live id says what the queue's own call says, and that place alone has the queue that it leaves
+  pub groupAsQueue : (g : Groups) (i : ℕ) → LiveGroup g i → (c : BenchCall) → (saidOfGroups g (byId (idAt g i) c) ≡ saidBy (queueAt g i) c)
+      × (groupsAfter g (byId (idAt g i) c) ≡ withQueue g i (leftBy (queueAt g i) c))
+  pub groupAskedAsQueue : (g : Groups) (i : ℕ) → LiveGroup g i → (a : QueueQuestion) → toldById g (idAt g i) a ≡ toldTo (queueAt g i) a
+  pub acceptsMeans : (g : Groups) (i : ℕ) → LiveGroup g i → acceptsIn g (idAt g i) ≡ yesOrNo (not (isCancelled (queueAt g i .phase)))
+  pub getGives : (g : Groups) (i : ℕ) → LiveGroup g i → got g (idAt g i) ≡ record { answer = Got.Group; queue = queueAt g i }
+  -- on any other id it says 10
+  pub noSuchGroup : (g : Groups) (id : ℕ) → SixteenPlaces g → wellGrouped g ≡ true → (IsLive g id → ⊥)
+      → ((c : BenchCall) → saidOfGroups g (byId id c) .number ≡ noGroup) × (saidOfGroups g (GroupCall.remove id) .number ≡ noGroup) × ((a : QueueQuestion) → toldById g id a .number ≡ noGroup)
+  -- a live group that a call is not for keeps its whole place
+  pub otherGroupsStay : (g : Groups) → SixteenPlaces g → (c : GroupCall) (j : ℕ) → LiveAt g j → isFor c (idAt g j) ≡ false → placeAt (groupsAfter g c) j ≡ placeAt g j
+  -- the check says yes to exactly the sound records; a new one has the root alone; from it on, whatever is called, it is sound
+  pub checkMeansSound : (g : Groups) → SixteenPlaces g → (wellGrouped g ≡ true) ↔ Sound g
+  pub newHasRoot : (base : ℕ) → base ≤ lastBase → newOf base ≡ record { answer = Opened.Open; groups = withOpened (emptyOf base) 0 (scopeOf base 0) }
+  pub groupsStaySound : (base : ℕ) (cs : List GroupCall) → (wellGrouped (groupsAfterAll (newOf base .groups) cs) ≡ true) × SixteenPlaces (groupsAfterAll (newOf base .groups) cs)
+  -- an opening that is done gave the next id, and put a fresh queue into the lowest free place
+  pub openedGroup : (g : Groups) → SixteenPlaces g → (n : ℕ) → (addedScope g .answer ≡ Added.Id n → AddedAs g n (scopeOf (nextDomain g) 0) (addedScope g .groups))
+      × ((bindings : List ℕ) → addedIterator g bindings .answer ≡ Added.Id n → AddedAs g n (iteratorOf (nextDomain g) 0 bindings) (addedIterator g bindings .groups))
+  -- ids: one that was given and is not live never is again, that of a closed group too; live groups have domains of their own
+  pub goneForGood : (g : Groups) (cs : List GroupCall) (id : ℕ) → SixteenPlaces g → id < g .next → (IsLive g id → ⊥) → IsLive (groupsAfterAll g cs) id → ⊥
+  pub closedForGood : (g : Groups) (id : ℕ) (cs : List GroupCall) → SixteenPlaces g → removed g id .answer ≡ Closed.Done → IsLive (groupsAfterAll (removed g id .groups) cs) id → ⊥
+  pub domainsDiffer : (g : Groups) (i j : ℕ) → LiveGroup g i → LiveGroup g j → queueAt g i .domain ≡ queueAt g j .domain → i ≡ j
+  -- close is done exactly if the id is live and nothing is left in its queue, and frees that place alone
+  pub closesExactly : (g : Groups) (id : ℕ) → SixteenPlaces g → (removed g id .answer ≡ Closed.Done) ↔ ((i : ℕ) × LiveGroup g i × (idAt g i ≡ id) × DrainedQueue (queueAt g i))
+  pub closeFrees : (g : Groups) (i : ℕ) → LiveGroup g i → removed g (idAt g i) .answer ≡ Closed.Done → removed g (idAt g i) .groups ≡ withPlace g i freePlace
+  -- seal is done exactly if nothing is left in any group, and then none is live any more, whatever is called
+  pub sealsExactly : (g : Groups) → SixteenPlaces g → (sealedIn g .answer ≡ Closed.Done)
+      ↔ ((wellGrouped g ≡ true) × (g .sealed ≡ false) × ((i : ℕ) → i < 16 → LiveAt g i → DrainedQueue (queueAt g i)))
+  pub sealedForGood : (g : Groups) → SixteenPlaces g → sealedIn g .answer ≡ Closed.Done → (cs : List GroupCall) (id : ℕ) → IsLive (groupsAfterAll (sealedIn g .groups) cs) id → ⊥
+  -- retry_all: yes exactly if can_retry_all says so, and else it changes nothing
+  pub roundExactly : (g : Groups) → (retriedAll g .answer ≡ Yes) ↔ (canRetryAllOf g ≡ Yes)
+  pub roundElseNothing : (g : Groups) → (retriedAll g .answer ≡ Yes → ⊥) → retriedAll g .groups ≡ g
+  -- each failed group is retried as a queue, and gets a new ticket; one that had not failed keeps its whole place
+  pub roundRetries : (g : Groups) (i : ℕ) → LiveGroup g i → retriedAll g .answer ≡ Yes → queueAt g i .failed ≡ true
+      → (queueAt (retriedAll g .groups) i ≡ retried (queueAt g i) .queue) × ((t : Ticket) × (retried (queueAt g i) .answer ≡ Retried.Again t))
+  pub roundKeeps : (g : Groups) (i : ℕ) → queueAt g i .failed ≡ false → placeAt (retriedAll g .groups) i ≡ placeAt g i
+  -- what a yes means, and how many are live
+  pub yesMeans : (g : Groups) → SixteenPlaces g → (a : RecordQuestion) → (recordTold g a ≡ Yes) ↔ ((wellGrouped g ≡ true) × YesMeans g a)
+  pub lenTells : (g : Groups) → wellGrouped g ≡ true → lenSays (lenOf g) ≡ says done (liveCount (g .places) ∷ [])
 
 -- ---- demand 3
 pub record Demand3 : Type 0 where
@@ -165,8 +450,14 @@ pub record Demand3 : Type 0 where
 
 -- ---- of the library for C
 pub record LibraryDemand : Type 0 where
-  -- who only calls it never meets 1 for its queue
+  -- an opening makes sound words of any, and whatever is called they stay sound
+  pub opensSound : (s : Session) (domain first : ℕ) (bindings : List ℕ) → (isSound (sessionAfter s (LibraryCall.opensScope domain first) .words) ≡ true)
+      × (isSound (sessionAfter s (LibraryCall.opensIterator domain first bindings) .words) ≡ true)
   pub neverBroken : (s : Session) → isSound (s .words) ≡ true → (cs : List LibraryCall) → isSound (sessionAfterAll s cs .words) ≡ true
+  -- so who only calls it never gets 1 for its queue: not from a call that may write there, nor from a question
+  pub neverOne : (s : Session) → isSound (s .words) ≡ true → (cs : List LibraryCall) (c : LibraryCall) (n : ℕ) → Returned (sessionAfterAll s cs) c n
+      → (n ≡ broken) ↔ IsOne (sessionAfterAll s cs) c
+  pub neverOneAsked : (s : Session) → isSound (s .words) ≡ true → (cs : List LibraryCall) (a : WordQuestion) → askedOn (sessionAfterAll s cs .words) a .result ≡ broken → ⊥
   -- and what its recorded calls left is read back to the very same words
   pub sameWords : (kind domain first : ℕ) (bindings memory : List ℕ) (s : Session) → kind ≤ 1 → Recorder (openingBy kind domain first bindings) memory s
       → (ws : List ℕ) (x : Exported) → ReadOn ws kind domain first bindings (usedWords s) x → (x .result ≡ done) × (x .words ≡ s .words)

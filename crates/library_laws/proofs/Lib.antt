@@ -3,3 +3,4 @@ pub mod OneAnswer
 pub mod Says
 pub mod Sessions
 pub mod Carried
+pub mod NeverOne

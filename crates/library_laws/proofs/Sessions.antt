@@ -50,7 +50,7 @@ use Rattle.library_laws.proofs.Sounds.{callOf, born-words, pop-words, c
 use Rattle.library_laws.proofs.Says.{born-tells, pop-tells, complete-tells, retry-tells, told-number, cancel-tells}
 
 -- ---- an exported recorded call on sound words is the bench's recorded call on the record that they encode
-abbrev Matches : Recorded → Outcome → Type 0
+abbrev pub Matches : Recorded → Outcome → Type 0
 Matches r o = (r .call .words ≡ wordsOf (o .bench .queue)) × (r .log ≡ o .bench .log) × (r .used ≡ o .bench .used) × (r .call .result ≡ o .number)
 
 module _ (ws : List ℕ) (s : isSound ws ≡ true) (log : List ℕ) (used : ℕ) where
@@ -61,10 +61,10 @@ module _ (ws : List ℕ) (s : isSound ws ≡ true) (log : List ℕ) (used : ℕ)
       subst (λ (r : Recorded). Matches r (outcome says k)) (sym (miss _ (ap not (and-left (encodes ws) (wellFormed (queueOf ws)) s))))
       (words (k .answer) _, refl, refl, number (k .answer) _)
 
-  abbrev from : Bench
+  abbrev pub from : Bench
   from = bench (queueOf ws) used log
 
-  logged-is : (c : WordCall) → Matches (loggedBy (session ws log used) c) (recorded from (callOf ws c))
+  pub logged-is : (c : WordCall) → Matches (loggedBy (session ws log used) c) (recorded from (callOf ws c))
   unfolding registerRecordedOn landRecordedOn popRecordedOn completeRecordedOn retryRecordedOn admitRecordedOn admitWithoutRecordedOn endRecordedOn cancelRecordedOn
   logged-is (WordCall.register n) = kept-matches bornSaid registeredSays born-words (λ a vs. born-tells vs a .number) n (registerRecorded (queueOf ws) n log used)
   logged-is (WordCall.land n) = kept-matches bornSaid registeredSays born-words (λ a vs. born-tells vs a .number) n (landRecorded (queueOf ws) n log used)

@@ -2,3 +2,4 @@ pub mod CallWords
 pub mod Tickets
 pub mod Values
 pub mod Sessions
+pub mod Results
