@@ -1,4 +1,4 @@
--- The three demands, a field for each sentence, over the definitions that the contracts of the public calls cite
+-- The three demands, and one on the library, a field for each sentence, over the definitions that the contracts of the public calls cite
 use Prim.Native.Nat.{ℕ, _+_, _<_, _≤_}
 use mathlib.Core.Path.{_≡_}
 use mathlib.Core.Logic.{_↔_}
@@ -428,7 +428,7 @@ pub record Demand2 : Type 0 where
   pub yesMeans : (g : Groups) → SixteenPlaces g → (a : RecordQuestion) → (recordTold g a ≡ Yes) ↔ ((wellGrouped g ≡ true) × YesMeans g a)
   pub lenTells : (g : Groups) → wellGrouped g ≡ true → lenSays (lenOf g) ≡ says done (liveCount (g .places) ∷ [])
 
--- ---- demand 3
+-- ---- demand 3: a log names each change; the reader accepts exactly the logs that recorded calls can leave, and finds what they leave
 pub record Demand3 : Type 0 where
   -- a call writes its row exactly if it changes the queue
   pub rowsNameChanges : (q : Queue) (c : Call) → (entryOf q c .changed ≡ false → after q c ≡ q) × (entryOf q c .changed ≡ true → after q c ≡ q → ⊥)
