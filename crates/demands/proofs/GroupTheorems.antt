@@ -80,10 +80,10 @@ use Rattle.cleanup_groups.proofs.Frames.{run-sealed}
 use Rattle.cleanup_groups.proofs.Rounds.{round-no, round-yes, round-renews, round-happens}
 use Rattle.cleanup_groups.proofs.Upstream.{round-at}
 use Rattle.history.specs.Benches.{BenchCall}
-use Rattle.demands.specs.Demands.{saidBy, leftBy, toldTo, QueueQuestion, asksEmpty, asksIssued, asksPending, asksSettled, asksCancelled, asksFailed, asksRetry, asksFinish, asksDomain}
-use Rattle.demands.specs.Demands.{saidOfGroups, groupsOrder, givenToGroups, GroupsNotRefusedWith0, GroupsRefusedAs, byId, isFor, toldById, RecordQuestion, recordTold, YesMeans}
-use Rattle.demands.specs.Demands.{asksContains, asksNoneLive, asksSomePending, asksSomeIssued, asksSomeFailed, asksRetryAll, asksAllFinish, asksSeal, asksRoom}
-use Rattle.demands.specs.Demands.{GroupQuestion, asksGroup, asksAccepts, asksQueue, asksRecord, asksLen, groupsTold, groupsAskedOrder, SixteenPlaces, LiveGroup}
+use Rattle.demands.specs.CallTables.{saidBy, leftBy, toldTo, QueueQuestion, asksEmpty, asksIssued, asksPending, asksSettled, asksCancelled, asksFailed, asksRetry, asksFinish, asksDomain}
+use Rattle.demands.specs.CallTables.{saidOfGroups, groupsOrder, givenToGroups, GroupsNotRefusedWith0, GroupsRefusedAs, byId, isFor, toldById, RecordQuestion, recordTold, YesMeans}
+use Rattle.demands.specs.CallTables.{asksContains, asksNoneLive, asksSomePending, asksSomeIssued, asksSomeFailed, asksRetryAll, asksAllFinish, asksSeal, asksRoom}
+use Rattle.demands.specs.CallTables.{GroupQuestion, asksGroup, asksAccepts, asksQueue, asksRecord, asksLen, groupsTold, groupsAskedOrder, SixteenPlaces, LiveGroup}
 
 -- ---- one number
 pub one-number-groups : (g : Groups) (c : GroupCall) → saidOfGroups g c .number ≡ firstDue (groupsOrder g c)

@@ -51,8 +51,8 @@ use Rattle.history.proofs.WordLogs.{word-logs}
 use Rattle.library_laws.proofs.Sounds.{scope-sound, iterator-sound}
 use Rattle.library_laws.proofs.Sessions.{session-sound, read-back-same}
 use Rattle.library_laws.proofs.NeverOne.{never-one, never-one-asked}
-use Rattle.demands.specs.Demands.{saidBy, orderOf, givenTo, NotRefusedWith0, RecordedNotRefusedWith0, leftBy, QueueQuestion, asksEmpty, asksIssued, asksPending, asksSettled}
-use Rattle.demands.specs.Demands.{asksCancelled, asksFailed, asksRetry, asksFinish, asksDomain, toldTo}
+use Rattle.demands.specs.CallTables.{saidBy, orderOf, givenTo, NotRefusedWith0, RecordedNotRefusedWith0, leftBy, QueueQuestion, asksEmpty, asksIssued, asksPending, asksSettled}
+use Rattle.demands.specs.CallTables.{asksCancelled, asksFailed, asksRetry, asksFinish, asksDomain, toldTo}
 use Rattle.demands.specs.Demands.{Demand1, Demand2, Demand3, LibraryDemand}
 use Rattle.demands.proofs.GroupTheorems.{one-number-groups, one-number-groups-asked, groups-not-refused-with-0, groups-unchanged, empty-new, blank-get, new-has-root}
 use Rattle.demands.proofs.GroupTheorems.{group-as-queue, asked-as-queue, get-gives, no-such-group, other-groups-stay, closes-exactly, close-frees}
