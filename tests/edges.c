@@ -1,5 +1,5 @@
 /* edges.c: what the header says beside the calls: lists and logs of no words may be null, results have names, a switch over a call's
-   cases compiles, and the macros are what they were. */
+   cases compiles, and the macros are what they were. And that the archive's functions lie where docs/DECISIONS.md, 55, puts them. */
 #include <ctype.h>
 #include <stdio.h>
 #include <stdlib.h>
@@ -103,10 +103,21 @@ static int switches(uint64_t said) {
     return met;
 }
 
+/* Wherever the linker puts the archive, a call begins at a multiple of 64 bytes. */
+static void try_places(void) {
+    const uintptr_t places[] = {
+        (uintptr_t)gulberzan_register,          (uintptr_t)gulberzan_pop,          (uintptr_t)gulberzan_complete,
+        (uintptr_t)gulberzan_retry,             (uintptr_t)gulberzan_admit,        (uintptr_t)gulberzan_read,
+        (uintptr_t)gulberzan_register_recorded, (uintptr_t)gulberzan_pop_recorded, (uintptr_t)gulberzan_complete_recorded,
+    };
+    for (size_t place = 0; place < sizeof places / sizeof places[0]; place++) EXPECT(places[place] % 64 == 0);
+}
+
 int main(void) {
     try_null();
     try_names();
+    try_places();
     EXPECT(switches(0) == 8 && switches(1) == 8 && switches(2) == 2);
-    puts("null lists of no words, the results' names, a switch for each call");
+    puts("null lists of no words, the results' names, a switch for each call, where functions lie");
     return 0;
 }
