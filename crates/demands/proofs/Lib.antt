@@ -1,2 +1,3 @@
+pub mod QuestionTheorems
 pub mod GroupTheorems
 pub mod Theorems

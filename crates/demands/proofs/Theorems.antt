@@ -8,16 +8,23 @@ use Rattle.queue_record.specs.Refusals.{done}
 use Rattle.queue_record.specs.Openings.{openedAs}
 use Rattle.queue_record.specs.declared.record.Queue.{Queue}
 use Rattle.queue_record.proofs.Opened.{opened-well-formed}
-use Rattle.queue_questions.specs.Questions.{matches}
+use Rattle.stage.proofs.Sets.{same-means, means-same}
+use Rattle.queue_questions.specs.Questions.{committed, matches}
 use Rattle.cleanup_queue.specs.Orders.{firstDue, RefusedAs, brokenOnly}
 use Rattle.cleanup_queue.proofs.Numbers.{opening-number, register-number, land-number, pop-number, complete-number, retry-number, questions-number}
 use Rattle.cleanup_queue.proofs.Numbers.{admit-number, end-number, cancel-number, domain-number}
 use Rattle.cleanup_queue.proofs.Said.{opening-refused, register-refused, land-refused, pop-refused, complete-refused, retry-refused, admit-refused}
 use Rattle.cleanup_queue.proofs.Said.{end-refused, cancel-refused, opening-no-zero, register-no-zero, land-no-zero, pop-no-zero, complete-no-zero}
-use Rattle.cleanup_queue.proofs.Said.{retry-no-zero, admit-no-zero, end-no-zero, cancel-no-zero}
+use Rattle.cleanup_queue.proofs.Said.{retry-no-zero, admit-no-zero, end-no-zero, cancel-no-zero, retry-said, admit-said, end-said}
 use Rattle.cleanup_queue.proofs.HandsOut.{pop-exactly, pop-hands}
-use Rattle.cleanup_queue.proofs.Upstream.{waiting-rises}
-use Rattle.cleanup_queue.proofs.Waits.{register-appends, land-appends, fresh-pop-drops}
+use Rattle.cleanup_queue.proofs.Upstream.{waiting-rises, call-keeps-opening, register-leaves, land-leaves, register-pushes, land-pushes, land-moves}
+use Rattle.cleanup_queue.proofs.Upstream.{pop-empties, pop-leaves, pop-next, pop-issues, complete-leaves, complete-takes-back, told-retries, retries-told}
+use Rattle.cleanup_queue.proofs.Upstream.{admit-leaves, end-leaves, cancel-leaves, admit-moves, end-moves, cancel-moves}
+use Rattle.cleanup_queue.proofs.Precisely.{settles-exactly, retry-leaves-whole, retries-exactly, empty-exactly}
+use Rattle.cleanup_queue.proofs.SoundFits.{well-formed-means}
+use Rattle.cleanup_queue.proofs.Cases.{marked-cases}
+use Rattle.cleanup_queue.proofs.Waits.{register-appends, land-appends, fresh-pop-drops, ready-pop-keeps, idle-pop-keeps, complete-keeps-waiting, retry-keeps-waiting}
+use Rattle.cleanup_queue.proofs.Waits.{admit-keeps-waiting, end-keeps-waiting, cancel-keeps-waiting}
 use Rattle.cleanup_queue.proofs.Finish.{finish-means, means-finish, finish-with-bindings}
 use Rattle.cleanup_queue.proofs.Keeps.{run-keeps}
 use Rattle.cleanup_queue.proofs.Exactly.{opened-parts, attempts-exactly, tokens-exactly}
@@ -54,6 +61,7 @@ use Rattle.library_laws.proofs.NeverOne.{never-one, never-one-asked}
 use Rattle.demands.specs.CallTables.{saidBy, orderOf, givenTo, NotRefusedWith0, RecordedNotRefusedWith0, leftBy, QueueQuestion, asksEmpty, asksIssued, asksPending, asksSettled}
 use Rattle.demands.specs.CallTables.{asksCancelled, asksFailed, asksRetry, asksFinish, asksDomain, toldTo}
 use Rattle.demands.specs.Demands.{Demand1, Demand2, Demand3, LibraryDemand}
+use Rattle.demands.proofs.QuestionTheorems.{asks-say, asked-valued, asked-valued-by-id, accepts-valued, record-valued, len-tells}
 use Rattle.demands.proofs.GroupTheorems.{one-number-groups, one-number-groups-asked, groups-not-refused-with-0, groups-unchanged, empty-new, blank-get, new-has-root}
 use Rattle.demands.proofs.GroupTheorems.{group-as-queue, asked-as-queue, get-gives, no-such-group, other-groups-stay, closes-exactly, close-frees}
 use Rattle.demands.proofs.GroupTheorems.{seals-exactly, sealed-for-good, round-exactly, round-retries, round-keeps-place, yes-means}
@@ -133,6 +141,7 @@ demand1 = record {
   oneNumberRecorded = one-number-recorded;
   refusalIsNot0 = (not-refused-with-0, opening-no-zero);
   recordedRefusalIsNot0 = recorded-not-refused-with-0;
+  askedRefusalIsNot0 = (asked-valued, asked-valued-by-id, accepts-valued, record-valued, len-tells);
   nothingChanged = nothing-changed;
   blankOpening = opening-refused;
   nothingChangedRecorded = λ b c. refused-stays b (callOn (b .queue) c);
@@ -148,15 +157,40 @@ demand1 = record {
 
 pub demand2 : Demand2
 demand2 = record {
+  wellFormedMeans = well-formed-means;
+  openingStays = call-keeps-opening;
+  birthStores = λ q z n. (register-pushes q n z, land-pushes q n z);
+  birthLeaves = λ q n. (register-leaves q n .0, register-leaves q n .1, land-leaves q n);
+  landMoves = λ q n token h. let m = land-moves q n token h in (m .0, m .3);
+  popLeaves = λ q t number h. (pop-empties q t number h .0, pop-issues q t number h .1, pop-issues q t number h .0, pop-next q t number h);
+  popStays = pop-leaves;
+  popNothing = idle-pop-keeps;
+  settlesExactly = settles-exactly;
+  completeLeaves = λ q t o k h. let l = complete-leaves q t o k in (complete-takes-back q t o k h, l .0, l .1);
+  retriesExactly = retries-exactly;
+  retryLeaves = retry-leaves-whole;
+  stageLeaves = λ q m. (admit-leaves q m, end-leaves q, cancel-leaves q);
+  stageMoves = λ q m w. (admit-moves q m w, end-moves q w, cancel-moves q w);
+  matchMeans = λ q target. (same-means target (committed q), means-same target (committed q));
+  admitSays = admit-said;
+  endSays = end-said;
+  retrySays = retry-said;
+  asksSay = asks-say;
+  emptyMeans = empty-exactly;
+  canRetryMeans = λ q. (told-retries q, λ r. retries-told q (r .0) (r .1));
+  markedCases = marked-cases;
   handsOutExactly = pop-exactly;
   handsOutThis = pop-hands;
   waitingRises = waiting-rises;
   birthWaitsLast = λ q z n. (register-appends q n z, land-appends q n z);
   popTakesLast = fresh-pop-drops;
+  readyKeepsWaiting = ready-pop-keeps;
+  othersKeepWaiting = λ q. (complete-keeps-waiting q, retry-keeps-waiting q, admit-keeps-waiting q, end-keeps-waiting q, cancel-keeps-waiting q);
   finishMeans = λ q target. (finish-means q target, means-finish q target);
   finishHappens = finish-with-bindings;
   openedAsGiven = opened-parts;
   staysSound = λ o cs. run-keeps (openedAs o .queue) cs (opened-well-formed o);
+  soundStays = run-keeps;
   attemptsExactly = attempts-exactly;
   tokensExactly = tokens-exactly;
   groupAsQueue = group-as-queue;

@@ -5,18 +5,20 @@ use mathlib.Core.Bool.{Bool, true, false, not}
 use mathlib.Core.List.{List, [], _∷_}
 use lib.Dec.{eqb}
 use lib.ListN.{length}
-use Rattle.stage.specs.Phases.{isPending}
+use Rattle.choice.specs.Choice.{bit}
+use Rattle.stage.specs.Phases.{isPending, isSettled, isCancelled}
 use Rattle.queue_record.specs.Refusals.{done}
+use Rattle.queue_record.specs.Waiting.{waiting}
 use Rattle.queue_record.specs.declared.record.Queue.{Queue}
 use Rattle.queue_births.specs.Births.{registered, landed}
-use Rattle.queue_steps.specs.Attempts.{popped, completed, retried}
+use Rattle.queue_steps.specs.Attempts.{popped, completed, retryAllowed, retried}
 use Rattle.queue_births.specs.declared.births.Registered.{Registered}
 use Rattle.queue_steps.specs.declared.attempts.Popped.{Popped}
 use Rattle.queue_steps.specs.declared.attempts.Completed.{Completed}
 use Rattle.queue_steps.specs.declared.attempts.Retried.{Retried}
 use Rattle.queue_stages.specs.Stages.{admitted, ended, cancelledBy}
 use Rattle.queue_stages.specs.declared.stages.Cancelled.{Cancelled}
-use Rattle.queue_questions.specs.Questions.{matches, isEmptyTold, isIssuedTold, isPendingTold, isSettledTold, isCancelledTold, hasFailedTold, canRetryTold, canFinishTold, domainTold}
+use Rattle.queue_questions.specs.Questions.{nothingLeft, finishable, committed, matches, isEmptyTold, isIssuedTold, isPendingTold, isSettledTold, isCancelledTold, hasFailedTold, canRetryTold, canFinishTold, domainTold}
 use Rattle.queue_questions.specs.declared.questions.Told.{Told}
 use Rattle.cleanup_queue.specs.Answers.{Said, registeredSays, poppedSays, completedSays, retriedSays, toldSays, cancelledSays, domainSays}
 use Rattle.cleanup_queue.specs.Orders.{Ground, registerOrder, landOrder, popOrder, completeOrder, retryOrder, brokenOnly}
@@ -129,6 +131,18 @@ toldTo q asksFailed = toldSays (hasFailedTold q)
 toldTo q asksRetry = toldSays (canRetryTold q)
 toldTo q (asksFinish target) = toldSays (canFinishTold q target)
 toldTo q asksDomain = domainSays (domainTold q)
+
+-- the value that it tells of a well-formed queue: 1 for yes and 0 for no, or the domain
+abbrev pub meantBy : Queue → QueueQuestion → ℕ
+meantBy q asksEmpty = bit (nothingLeft (q .selection) (waiting q))
+meantBy q asksIssued = bit (q .issued)
+meantBy q asksPending = bit (isPending (q .phase))
+meantBy q asksSettled = bit (isSettled (q .phase))
+meantBy q asksCancelled = bit (isCancelled (q .phase))
+meantBy q asksFailed = bit (q .failed)
+meantBy q asksRetry = bit (retryAllowed q (q .selection))
+meantBy q (asksFinish target) = bit (finishable (q .selection) (q .phase) target (committed q))
+meantBy q asksDomain = q .domain
 
 -- ---- the calls of the groups that may change their record: what one says, in which order it refuses, what it was given
 abbrev pub saidOfGroups : Groups → GroupCall → Said

@@ -2,31 +2,38 @@
 use Prim.Native.Nat.{ℕ, _+_, _<_, _≤_}
 use mathlib.Core.Path.{_≡_}
 use mathlib.Core.Logic.{_↔_}
-use mathlib.Core.Bool.{true, false, not}
+use mathlib.Core.Bool.{Bool, true, false, not}
 use mathlib.Core.List.{List, [], _∷_}
-use lib.ListN.{length, take}
+use lib.ListN.{length, take, set}
 use Rattle.queue_record.specs.Record.{Sized}
-use Rattle.stage.specs.Phases.{isCancelled}
+use Rattle.choice.specs.Choice.{if_then_else_}
+use Rattle.stage.specs.Bindings.{SameMembers}
+use Rattle.stage.specs.Phases.{phaseAfter, isPending, isCancelled}
+use Rattle.stage.specs.declared.phases.Event.{Event}
 use Rattle.queue_record.specs.Refusals.{done, broken, noGroup, badLog}
 use Rattle.queue_record.specs.WellFormed.{wellFormed}
 use Rattle.queue_record.specs.Waiting.{waiting}
 use Rattle.queue_record.specs.Openings.{Opening, blank, scopeOf, iteratorOf, openedAs}
 use Rattle.queue_record.specs.declared.record.Ticket.{Ticket}
+use Rattle.queue_record.specs.declared.record.Selection.the-variants.{Free, Of}
 use Rattle.queue_record.specs.declared.record.Queue.{Queue}
 use Rattle.queue_record.specs.declared.openings.Opened.{Opened}
 use Rattle.queue_decisions.specs.Slots.{noMore}
 use Rattle.queue_births.specs.Births.{registered, landed}
-use Rattle.queue_steps.specs.Attempts.{popped, retried}
+use Rattle.queue_steps.specs.Attempts.{slot, popped, completed, retried}
 use Rattle.queue_births.specs.declared.births.Registered.{Registered}
 use Rattle.queue_steps.specs.declared.attempts.Popped.the-variants.{Work}
 use Rattle.queue_steps.specs.declared.attempts.Completed.{Completed}
 use Rattle.queue_steps.specs.declared.attempts.Retried.{Retried}
-use Rattle.queue_questions.specs.Questions.{yesOrNo, canFinishTold}
+use Rattle.queue_stages.specs.Stages.{admitted, ended, cancelledBy}
+use Rattle.queue_questions.specs.Questions.{yesOrNo, committed, matches, isEmptyTold, canRetryTold, canFinishTold}
 use Rattle.queue_questions.specs.declared.questions.Told.the-variants.{Yes}
-use Rattle.cleanup_queue.specs.Answers.{says, openedSays}
-use Rattle.cleanup_queue.specs.Orders.{firstDue, RefusedAs, openingOrder, brokenOnly}
-use Rattle.cleanup_queue.specs.Parts.{OpenedParts, Appends, Drops}
+use Rattle.cleanup_queue.specs.Answers.{says, openedSays, retriedSays, toldSays}
+use Rattle.cleanup_queue.specs.Marked.{table, definitionSays, paperSays}
+use Rattle.cleanup_queue.specs.Orders.{firstDue, firstSaid, RefusedAs, openingOrder, retryOrder, renewedValues, brokenOnly, Tells}
+use Rattle.cleanup_queue.specs.Parts.{OpenedParts, SameOpening, LeavesSelected, Pushes, Appends, Drops, TakesNext, TakesBack, RenewsTo, StaysButPhase}
 use Rattle.cleanup_queue.specs.Promises.{handsOut, mayHandOut, HandedOut, Finishable}
+use Rattle.cleanup_queue.specs.SoundQueues.{SoundQueue}
 use Rattle.cleanup_queue.specs.Runs.{Call, after, afterAll, attempts, tokens, Rising, Counts}
 use Rattle.group_record.specs.Record.{placeAt, queueAt, freePlace, withPlace, withQueue, withOpened, emptyOf}
 use Rattle.group_record.specs.declared.record.Groups.{Groups}
@@ -65,7 +72,7 @@ use Rattle.queue_words.specs.Exported.{Exported}
 use Rattle.gulberzan_c.specs.ReadBack.{ReadOn}
 use Rattle.library_laws.specs.Sessions.{Session, LibraryCall, sessionAfter, sessionAfterAll, openingBy, Recorder, usedWords}
 use Rattle.library_laws.specs.Results.{WordQuestion, askedOn, Returned, IsOne}
-use Rattle.demands.specs.CallTables.{saidBy, orderOf, givenTo, NotRefusedWith0, RecordedNotRefusedWith0, leftBy, QueueQuestion, toldTo}
+use Rattle.demands.specs.CallTables.{saidBy, orderOf, givenTo, NotRefusedWith0, RecordedNotRefusedWith0, leftBy, QueueQuestion, toldTo, meantBy}
 use Rattle.demands.specs.CallTables.{saidOfGroups, groupsOrder, givenToGroups, GroupsNotRefusedWith0, GroupsRefusedAs, byId, isFor, toldById}
 use Rattle.demands.specs.CallTables.{RecordQuestion, recordTold, YesMeans, GroupQuestion, groupsTold, groupsAskedOrder, SixteenPlaces}
 use Rattle.demands.specs.CallTables.{LiveGroup}
@@ -81,6 +88,10 @@ pub record Demand1 : Type 0 where
   -- what is refused is told from what is done by its number
   pub refusalIsNot0 : ((q : Queue) (c : BenchCall) → NotRefusedWith0 q c) × ((o : Opening) → openedAs o .answer ≡ Opened.Refused done → ⊥)
   pub recordedRefusalIsNot0 : (q : Queue) (log : List ℕ) (used : ℕ) (c : BenchCall) → RecordedNotRefusedWith0 q log used c
+  -- nor is a question refused with 0: what it says with 0 has a value
+  pub askedRefusalIsNot0 : ((q : Queue) (a : QueueQuestion) → toldTo q a ≡ says done [] → ⊥) × ((g : Groups) (id : ℕ) (a : QueueQuestion) → toldById g id a ≡ says done [] → ⊥)
+      × ((g : Groups) (id : ℕ) → toldSays (acceptsIn g id) ≡ says done [] → ⊥) × ((g : Groups) (a : RecordQuestion) → toldSays (recordTold g a) ≡ says done [] → ⊥)
+      × ((g : Groups) → lenSays (lenOf g) ≡ says done [] → ⊥)
   pub nothingChanged : (q : Queue) (c : BenchCall) → RefusedAs q (givenTo c) (saidBy q c) (leftBy q c)
   pub blankOpening : (o : Opening) → RefusedAs blank [] (openedSays (openedAs o .answer)) (openedAs o .queue)
   pub nothingChangedRecorded : (b : Bench) (c : BenchCall) → (numberOf b (callOn (b .queue) c) ≡ done → ⊥) → called b (callOn (b .queue) c) ≡ b
@@ -99,6 +110,43 @@ pub record Demand1 : Type 0 where
 
 -- ---- demand 2: what the calls' equations come to
 pub record Demand2 : Type 0 where
+  -- the check says yes to exactly the records of R13 to R20
+  pub wellFormedMeans : (q : Queue) → (wellFormed q ≡ true) ↔ SoundQueue q
+  -- every call leaves what the opening gave: kind, domain and bindings; and the others, part by part
+  pub openingStays : (q : Queue) (c : Call) → SameOpening q (after q c)
+  -- a token given: the number stands in its slot, the count rises by 1; nothing else changes, but the phase by a land
+  pub birthStores : (q : Queue) → Sized q → (n : ℕ) → Pushes q n (registered q n) × Pushes q n (landed q n)
+  pub birthLeaves : (q : Queue) (n : ℕ) → LeavesSelected q (registered q n .queue) × (registered q n .queue .phase ≡ q .phase) × LeavesSelected q (landed q n .queue)
+  pub landMoves : (q : Queue) (n token : ℕ) → landed q n .answer ≡ Registered.Token token → (isPending (q .phase) ≡ true) × (landed q n .queue .phase ≡ phaseAfter (q .phase) Event.Land)
+  -- work handed out: its slot empties, its ticket is selected and issued, next rises by 1 with a fresh ticket; without work nothing changes
+  pub popLeaves : (q : Queue) (t : Ticket) (number : ℕ) → popped q .answer ≡ Work t number
+      → (popped q .queue .slots ≡ set (q .slots) (t .token) 0) × (popped q .queue .selection ≡ Of t) × (popped q .queue .issued ≡ true) × TakesNext q (popped q .queue)
+  pub popStays : (q : Queue) → (popped q .queue .phase ≡ q .phase) × (popped q .queue .failed ≡ q .failed) × (popped q .queue .count ≡ q .count)
+  pub popNothing : (q : Queue) → handsOut (popped q .answer) ≡ false → popped q .queue ≡ q
+  -- a reply is taken in exactly if its ticket is out, and Done keeps nothing: then the slot has the kept number, and failed says the outcome
+  pub settlesExactly : (q : Queue) (t : Ticket) (outcome kept : ℕ) → (completed q t outcome kept .answer ≡ Completed.Settled)
+      ↔ ((wellFormed q ≡ true) × (q .issued ≡ true) × (q .selection ≡ Of t) × (outcome ≤ 1) × (outcome ≡ 0 → kept ≡ 0))
+  pub completeLeaves : (q : Queue) (t : Ticket) (outcome kept : ℕ) → completed q t outcome kept .answer ≡ Completed.Settled → TakesBack q t outcome kept (completed q t outcome kept .queue)
+      × (completed q t outcome kept .queue .phase ≡ q .phase) × (completed q t outcome kept .queue .next ≡ q .next)
+  -- a ticket is renewed exactly if it has failed, its slot is full and an attempt is left: it takes next, and next rises by 1
+  pub retriesExactly : (q : Queue) → ((t : Ticket) × (retried q .answer ≡ Retried.Again t))
+      ↔ ((wellFormed q ≡ true) × (q .failed ≡ true) × (q .next < noMore) × ((s : Ticket) × (q .selection ≡ Of s) × (slot q (s .token) ≡ 0 → ⊥)))
+  pub retryLeaves : (q : Queue) (t : Ticket) → retried q .answer ≡ Retried.Again t
+      → (s : Ticket) × (q .selection ≡ Of s) × (t ≡ record { domain = s .domain; token = s .token; attempt = q .next }) × RenewsTo q t (retried q .queue)
+  -- admit, end and cancel move the phase by the table of R28, and nothing else; admit only where a target is given that matches
+  pub stageLeaves : (q : Queue) (matched : Bool) → StaysButPhase q (admitted q matched .queue) × StaysButPhase q (ended q .queue) × StaysButPhase q (cancelledBy q .queue)
+  pub stageMoves : (q : Queue) (matched : Bool) → wellFormed q ≡ true → (admitted q matched .queue .phase ≡ (if matched then phaseAfter (q .phase) Event.Admit else q .phase))
+      × (ended q .queue .phase ≡ phaseAfter (q .phase) Event.End) × (cancelledBy q .queue .phase ≡ phaseAfter (q .phase) Event.Cancel)
+  pub matchMeans : (q : Queue) (target : List ℕ) → (matches q target ≡ true) ↔ SameMembers target (committed q)
+  -- what they say: admit whether the stage is pending now, end whether it was, retry the renewed ticket; and what each question says
+  pub admitSays : (q : Queue) (matched : Bool) → Tells q (isPending (admitted q matched .queue .phase)) (admitted q matched .answer)
+  pub endSays : (q : Queue) → Tells q (isPending (q .phase)) (ended q .answer)
+  pub retrySays : (q : Queue) → retriedSays (retried q .answer) ≡ firstSaid (retryOrder q) [] (renewedValues q (q .selection))
+  pub asksSay : (q : Queue) (a : QueueQuestion) → toldTo q a ≡ firstSaid (brokenOnly q) [] (meantBy q a ∷ [])
+  pub emptyMeans : (q : Queue) → (isEmptyTold q ≡ Yes) ↔ ((wellFormed q ≡ true) × (q .selection ≡ Free) × (waiting q ≡ []))
+  pub canRetryMeans : (q : Queue) → (canRetryTold q ≡ Yes) ↔ ((t : Ticket) × (retried q .answer ≡ Retried.Again t))
+  -- the cases W1 to W12 that were worked out by hand
+  pub markedCases : definitionSays table ≡ paperSays table
   -- pop hands out exactly when something may be handed out, and then the ready ticket or the newest waiting token's
   pub handsOutExactly : (q : Queue) → handsOut (popped q .answer) ≡ mayHandOut q
   pub handsOutThis : (q : Queue) (t : Ticket) (number : ℕ) → popped q .answer ≡ Work t number → HandedOut q t number
@@ -106,6 +154,10 @@ pub record Demand2 : Type 0 where
   pub waitingRises : (q : Queue) → Rising (waiting q)
   pub birthWaitsLast : (q : Queue) → Sized q → (n : ℕ) → Appends q (registered q n) × Appends q (landed q n)
   pub popTakesLast : (q : Queue) → Drops q (popped q)
+  -- and a ready ticket takes none; any other call leaves the list
+  pub readyKeepsWaiting : (q : Queue) (t : Ticket) → q .selection ≡ Of t → waiting (popped q .queue) ≡ waiting q
+  pub othersKeepWaiting : (q : Queue) → ((t : Ticket) (outcome kept : ℕ) → waiting (completed q t outcome kept .queue) ≡ waiting q) × (waiting (retried q .queue) ≡ waiting q)
+      × ((matched : Bool) → waiting (admitted q matched .queue) ≡ waiting q) × (waiting (ended q .queue) ≡ waiting q) × (waiting (cancelledBy q .queue) ≡ waiting q)
   -- can_finish, both ways, and one that is not empty
   pub finishMeans : (q : Queue) (target : List ℕ) → (canFinishTold q target ≡ Yes) ↔ Finishable q target
   pub finishHappens : canFinishTold (iteratorOf 0 0 (4 ∷ 9 ∷ [])) (9 ∷ 4 ∷ 9 ∷ []) ≡ Yes
@@ -113,6 +165,7 @@ pub record Demand2 : Type 0 where
   pub openedAsGiven : (o : Opening) → openedAs o .answer ≡ Opened.Open → OpenedParts o (openedAs o .queue)
   -- from it on, whatever is called: well formed, attempts first, plus 1, plus 2, and tokens 0 to 63
   pub staysSound : (o : Opening) (cs : List Call) → wellFormed (afterAll (openedAs o .queue) cs) ≡ true
+  pub soundStays : (q : Queue) (cs : List Call) → wellFormed q ≡ true → wellFormed (afterAll q cs) ≡ true
   pub attemptsExactly : (o : Opening) → openedAs o .answer ≡ Opened.Open → o .heading .first ≤ noMore → (cs : List Call)
       → Counts (o .heading .first) noMore (attempts (openedAs o .queue) cs)
   pub tokensExactly : (o : Opening) → openedAs o .answer ≡ Opened.Open → (cs : List Call) → Counts 0 64 (tokens (openedAs o .queue) cs)
