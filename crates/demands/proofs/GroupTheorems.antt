@@ -7,7 +7,7 @@ use mathlib.Core.List.{List, [], _∷_}
 use native.Mathlib.Omega.{arith}
 use borrow.Author.Tests.{eqb-false, le-ltb}
 use lib.Dec.{ltb}
-use lib.ListN.{length}
+use lib.ListN.{length, replicate}
 use Rattle.choice.proofs.Ways.{if-by, hit, miss, clash}
 use Rattle.queue_record.specs.Refusals.{done, noGroup}
 use Rattle.queue_record.specs.Openings.{blank, scopeOf}
@@ -56,7 +56,7 @@ use Rattle.group_rounds.specs.Rounds.{allRetried, retriedAll}
 use Rattle.group_rounds.specs.declared.rounds.RetryAllAnswer.{RetryAllAnswer}
 use Rattle.cleanup_groups.specs.Answers.{addedSays, closedSays, gotSays}
 use Rattle.cleanup_groups.specs.Orders.{stepOrder}
-use Rattle.cleanup_groups.specs.Promises.{LiveAt, idAt, IsLive, DrainedQueue, Sound}
+use Rattle.cleanup_groups.specs.Promises.{LiveAt, idAt, IsLive, DrainedQueue, Frame, Sound}
 use Rattle.cleanup_groups.specs.Runs.{GroupCall, groupsAfter, groupsAfterAll}
 use Rattle.cleanup_groups.proofs.ByCase.{by-spot, seal-by}
 use Rattle.cleanup_groups.proofs.Sounds.{sound-means}
@@ -76,7 +76,7 @@ use Rattle.cleanup_groups.proofs.Live.{live-spot, register-as, land-as, pop-as,
 use Rattle.cleanup_groups.proofs.Others.{register-others, land-others, pop-others, complete-others, retry-others, admit-others, admit-without-others}
 use Rattle.cleanup_groups.proofs.Others.{end-others, cancel-others, close-others, scope-others, iterator-others}
 use Rattle.cleanup_groups.proofs.Room.{may-open, opened-may, empty-means, means-empty}
-use Rattle.cleanup_groups.proofs.Frames.{run-sealed}
+use Rattle.cleanup_groups.proofs.Frames.{round-frame, run-sealed}
 use Rattle.cleanup_groups.proofs.Rounds.{round-no, round-yes, round-renews, round-happens}
 use Rattle.cleanup_groups.proofs.Upstream.{round-at}
 use Rattle.history.specs.Benches.{BenchCall}
@@ -335,6 +335,11 @@ module _ (g : Groups) (l : SixteenPlaces g) where
   pub seals-exactly : (sealedIn g .answer ≡ Closed.Done) ↔ ((wellGrouped g ≡ true) × (g .sealed ≡ false) × ((i : ℕ) → i < 16 → LiveAt g i → DrainedQueue (queueAt g i)))
   seals-exactly = (λ h. (sealed-was h .0, sealed-was h .1, seal-drops g l h .0), λ d. drained-seals g l (d .0) (d .1) (d .2))
 
+  -- the whole record that sealing leaves
+  pub seal-leaves : sealedIn g .answer ≡ Closed.Done → sealedIn g .groups ≡ record { base = g .base; next = g .next; sealed = true; places = replicate 16 freePlace }
+  unfolding sealing
+  seal-leaves h = seal-drops g l h .1
+
   pub sealed-for-good : sealedIn g .answer ≡ Closed.Done → (cs : List GroupCall) (id : ℕ) → IsLive (groupsAfterAll (sealedIn g .groups) cs) id → ⊥
   unfolding sealing
   sealed-for-good h cs id v =
@@ -345,6 +350,9 @@ module _ (g : Groups) (l : SixteenPlaces g) where
       clash (v .2) (o .sealed (run-sealed (sealedIn g .groups) cs s) (v .0) (v .1))
 
 -- ---- a round of retries
+same-frame : (g : Groups) → Frame g g
+same-frame g = record { base = refl; next = refl; sealed = refl; marks = λ i. refl; ids = λ i. refl }
+
 pub round-exactly : (g : Groups) → (retriedAll g .answer ≡ Yes) ↔ (canRetryAllOf g ≡ Yes)
 round-exactly g = (λ h. let y = round-yes g h in yes-told g (retriesAll g) (y .0) (y .1), λ h. let y = told-yes g (retriesAll g) h in round-happens g (y .0) (y .1))
 
@@ -353,6 +361,13 @@ pub round-retries : (g : Groups) (i : ℕ) → LiveGroup g i → retriedAll g .a
 round-retries g i p h f =
     let y = round-yes g h in
     (ap (λ (r : Groups). queueAt r i) (y .2) ∙ round-at g i (p .live) f, round-renews g (p .places) (y .1) i (p .inside) (p .live) f)
+
+-- any answer: the groups that there are stay
+pub round-stays : (g : Groups) → Frame g (retriedAll g .groups)
+unfolding retriedAll
+round-stays g =
+    if-by (λ (r : RetryAllAnswer). Frame g (r .groups)) (not (wellGrouped g)) _ _ (λ _. same-frame g)
+    (λ _. if-by (λ (r : RetryAllAnswer). Frame g (r .groups)) (not (retriesAll g)) _ _ (λ _. same-frame g) (λ _. round-frame g))
 
 pub round-keeps-place : (g : Groups) (i : ℕ) → queueAt g i .failed ≡ false → placeAt (retriedAll g .groups) i ≡ placeAt g i
 unfolding retriedAll

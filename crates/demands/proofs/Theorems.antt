@@ -44,6 +44,7 @@ use Rattle.cleanup_groups.proofs.Sounds.{sound-means, means-sound}
 use Rattle.cleanup_groups.proofs.Keeps as groups
 use Rattle.cleanup_groups.proofs.Live.{accepts-as}
 use Rattle.cleanup_groups.proofs.Ids.{gone-stays, closed-for-good, domains-differ}
+use Rattle.cleanup_groups.proofs.Room.{scope-opens-exactly, iterator-opens-exactly}
 use Rattle.cleanup_groups.proofs.Rounds.{round-no}
 use Rattle.cleanup_groups.proofs.Upstream.{scope-as, iterator-as}
 use Rattle.cleanup_groups.proofs.Says.{len-says, new-numbered, get-numbered}
@@ -64,7 +65,8 @@ use Rattle.demands.specs.Demands.{Demand1, Demand2, Demand3, LibraryDema
 use Rattle.demands.proofs.QuestionTheorems.{asks-say, asked-valued, asked-valued-by-id, accepts-valued, record-valued, len-tells}
 use Rattle.demands.proofs.GroupTheorems.{one-number-groups, one-number-groups-asked, groups-not-refused-with-0, groups-unchanged, empty-new, blank-get, new-has-root}
 use Rattle.demands.proofs.GroupTheorems.{group-as-queue, asked-as-queue, get-gives, no-such-group, other-groups-stay, closes-exactly, close-frees}
-use Rattle.demands.proofs.GroupTheorems.{seals-exactly, sealed-for-good, round-exactly, round-retries, round-keeps-place, yes-means}
+use Rattle.demands.proofs.RoundHappens.{round-said-yes}
+use Rattle.demands.proofs.GroupTheorems.{seals-exactly, seal-leaves, round-stays, sealed-for-good, round-exactly, round-retries, round-keeps-place, yes-means}
 
 one-number : (q : Queue) (c : BenchCall) → saidBy q c .number ≡ firstDue (orderOf q c)
 one-number q (BenchCall.register n) = register-number q n
@@ -202,6 +204,8 @@ demand2 = record {
   checkMeansSound = λ g l. (sound-means g l, means-sound g l);
   newHasRoot = new-has-root;
   groupsStaySound = λ base cs. let l = groups.new-whole base in (groups.run-keeps (newOf base .groups) cs l (groups.new-keeps base), groups.run-whole (newOf base .groups) cs l);
+  opensExactly = λ g l. (scope-opens-exactly g l, iterator-opens-exactly g l);
+  soundGroupsStay = λ g cs l w. (groups.run-keeps g cs l w, groups.run-whole g cs l);
   openedGroup = λ g l n. (scope-as g l n, λ bindings h. iterator-as g l n bindings h .1);
   goneForGood = gone-stays;
   closedForGood = closed-for-good;
@@ -209,11 +213,14 @@ demand2 = record {
   closesExactly = λ g id l. closes-exactly g l id;
   closeFrees = λ g i p. close-frees g (p .places) i p;
   sealsExactly = seals-exactly;
+  sealLeaves = seal-leaves;
   sealedForGood = sealed-for-good;
   roundExactly = round-exactly;
   roundElseNothing = round-no;
   roundRetries = round-retries;
   roundKeeps = round-keeps-place;
+  roundFrame = round-stays;
+  roundHappens = round-said-yes;
   yesMeans = yes-means;
   lenTells = len-says;
 }

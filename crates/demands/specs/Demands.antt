@@ -4,7 +4,7 @@ use mathlib.Core.Path.{_≡_}
 use mathlib.Core.Logic.{_↔_}
 use mathlib.Core.Bool.{Bool, true, false, not}
 use mathlib.Core.List.{List, [], _∷_}
-use lib.ListN.{length, take, set}
+use lib.ListN.{length, take, set, replicate}
 use Rattle.queue_record.specs.Record.{Sized}
 use Rattle.choice.specs.Choice.{if_then_else_}
 use Rattle.stage.specs.Bindings.{SameMembers}
@@ -50,7 +50,7 @@ use Rattle.group_endings.specs.declared.endings.Closed.{Closed}
 use Rattle.group_rounds.specs.Rounds.{retriedAll}
 use Rattle.cleanup_groups.specs.Answers.{lenSays, gotSays}
 use Rattle.cleanup_groups.specs.Orders.{newOrder}
-use Rattle.cleanup_groups.specs.Promises.{LiveAt, idAt, IsLive, DrainedQueue, AddedAs, Sound}
+use Rattle.cleanup_groups.specs.Promises.{LiveAt, idAt, IsLive, DrainedQueue, RoomToOpen, AddedAs, Frame, Sound}
 use Rattle.cleanup_groups.specs.Runs.{GroupCall, groupsAfter, groupsAfterAll}
 use Rattle.log_rows.specs.Rows.{rows, flat, written}
 use Rattle.log_rows.specs.Appending.{rowsFit, hasRoom}
@@ -185,6 +185,10 @@ pub record Demand2 : Type 0 where
   pub newHasRoot : (base : ℕ) → base ≤ lastBase → newOf base ≡ record { answer = Opened.Open; groups = withOpened (emptyOf base) 0 (scopeOf base 0) }
   pub groupsStaySound : (base : ℕ) (cs : List GroupCall) → (wellGrouped (groupsAfterAll (newOf base .groups) cs) ≡ true) × SixteenPlaces (groupsAfterAll (newOf base .groups) cs)
   -- an opening that is done gave the next id, and put a fresh queue into the lowest free place
+  -- a place is free and an id is left, and then exactly is an opening done; from any sound record on, whatever is called, it stays sound
+  pub opensExactly : (g : Groups) → SixteenPlaces g → (((n : ℕ) × (addedScope g .answer ≡ Added.Id n)) ↔ RoomToOpen g)
+      × ((bindings : List ℕ) → ((n : ℕ) × (addedIterator g bindings .answer ≡ Added.Id n)) ↔ ((length bindings ≤ 16) × RoomToOpen g))
+  pub soundGroupsStay : (g : Groups) (cs : List GroupCall) → SixteenPlaces g → wellGrouped g ≡ true → (wellGrouped (groupsAfterAll g cs) ≡ true) × SixteenPlaces (groupsAfterAll g cs)
   pub openedGroup : (g : Groups) → SixteenPlaces g → (n : ℕ) → (addedScope g .answer ≡ Added.Id n → AddedAs g n (scopeOf (nextDomain g) 0) (addedScope g .groups))
       × ((bindings : List ℕ) → addedIterator g bindings .answer ≡ Added.Id n → AddedAs g n (iteratorOf (nextDomain g) 0 bindings) (addedIterator g bindings .groups))
   -- ids: one that was given and is not live never is again, that of a closed group too; live groups have domains of their own
@@ -197,6 +201,7 @@ pub record Demand2 : Type 0 where
   -- seal is done exactly if nothing is left in any group, and then none is live any more, whatever is called
   pub sealsExactly : (g : Groups) → SixteenPlaces g → (sealedIn g .answer ≡ Closed.Done)
       ↔ ((wellGrouped g ≡ true) × (g .sealed ≡ false) × ((i : ℕ) → i < 16 → LiveAt g i → DrainedQueue (queueAt g i)))
+  pub sealLeaves : (g : Groups) → SixteenPlaces g → sealedIn g .answer ≡ Closed.Done → sealedIn g .groups ≡ record { base = g .base; next = g .next; sealed = true; places = replicate 16 freePlace }
   pub sealedForGood : (g : Groups) → SixteenPlaces g → sealedIn g .answer ≡ Closed.Done → (cs : List GroupCall) (id : ℕ) → IsLive (groupsAfterAll (sealedIn g .groups) cs) id → ⊥
   -- retry_all: yes exactly if can_retry_all says so, and else it changes nothing
   pub roundExactly : (g : Groups) → (retriedAll g .answer ≡ Yes) ↔ (canRetryAllOf g ≡ Yes)
@@ -205,6 +210,9 @@ pub record Demand2 : Type 0 where
   pub roundRetries : (g : Groups) (i : ℕ) → LiveGroup g i → retriedAll g .answer ≡ Yes → queueAt g i .failed ≡ true
       → (queueAt (retriedAll g .groups) i ≡ retried (queueAt g i) .queue) × ((t : Ticket) × (retried (queueAt g i) .answer ≡ Retried.Again t))
   pub roundKeeps : (g : Groups) (i : ℕ) → queueAt g i .failed ≡ false → placeAt (retriedAll g .groups) i ≡ placeAt g i
+  -- and what groups there are stays; it does say yes, here of a record whose root has failed
+  pub roundFrame : (g : Groups) → Frame g (retriedAll g .groups)
+  pub roundHappens : retriedAll (groupsAfterAll (newOf 0 .groups) (GroupCall.register 0 72 ∷ GroupCall.pop 0 ∷ GroupCall.complete 0 (record { domain = 0; token = 0; attempt = 0 }) 1 72 ∷ [])) .answer ≡ Yes
   -- what a yes means, and how many are live
   pub yesMeans : (g : Groups) → SixteenPlaces g → (a : RecordQuestion) → (recordTold g a ≡ Yes) ↔ ((wellGrouped g ≡ true) × YesMeans g a)
   pub lenTells : (g : Groups) → wellGrouped g ≡ true → lenSays (lenOf g) ≡ says done (liveCount (g .places) ∷ [])
