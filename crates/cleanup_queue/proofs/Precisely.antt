@@ -69,9 +69,12 @@ module _ (q : Queue) where
       retry-by (λ (r : RetryAnswer). (t : Ticket) → r .answer ≡ Again t → Renewable) q
       (λ n t e. let z : _≡_ {A = ℕ} 0 1 = cc in absurd (omega arith))
       (λ w s e a t h.
-      let full : (not (eqb (slot q (s .token)) 0) && ltb (q .next) noMore) ≡ true = and-right (q .failed) _ a in
-      (w, and-left (q .failed) _ a, ltb-true _ _ (and-right (not (eqb (slot q (s .token)) 0)) _ full),
-      (s, e, eqb-false _ _ (not-true _ (and-left (not (eqb (slot q (s .token)) 0)) _ full)))))
+      let full : (not (eqb (slot q (s .token)) 0) && ltb (q .next) noMore) ≡ true = and-right (q .failed) _ a in (
+        w,
+        and-left (q .failed) _ a,
+        ltb-true _ _ (and-right (not (eqb (slot q (s .token)) 0)) _ full),
+        (s, e, eqb-false _ _ (not-true _ (and-left (not (eqb (slot q (s .token)) 0)) _ full))),
+      ))
 
   told-renewable : Renewable → canRetryTold q ≡ Yes
   unfolding canRetryTold

@@ -2,13 +2,14 @@
 use Prim.Native.Nat.{ℕ, _<_, _≤_}
 use mathlib.Core.Path.{_≡_, refl, sym, ap, _∙_, subst}
 use mathlib.Core.Logic.{_↔_}
-use mathlib.Core.Bool.{Bool, true, false, not}
+use mathlib.Core.Bool.{Bool, true, false, not, _&&_, _||_}
 use mathlib.Core.List.{List, [], _∷_}
 use native.Mathlib.Omega.{arith}
-use borrow.Author.Tests.{eqb-false, le-ltb}
-use lib.Dec.{ltb}
+use borrow.Author.Tests.{eqb-false, ne-eqb, le-ltb, not-true, not-false}
+use lib.Dec.{eqb, ltb}
 use lib.ListN.{length, replicate}
-use Rattle.choice.proofs.Ways.{if-by, hit, miss, clash}
+use Rattle.stage.specs.Phases.{isPending}
+use Rattle.choice.proofs.Ways.{if-by, hit, miss, pass, stop, either, other, and-left, and-right, clash}
 use Rattle.queue_record.specs.Refusals.{done, noGroup}
 use Rattle.queue_record.specs.Openings.{blank, scopeOf}
 use Rattle.queue_record.specs.declared.record.Queue.{Queue}
@@ -29,6 +30,7 @@ use Rattle.cleanup_queue.proofs.Numbers.{questions-number}
 use Rattle.group_record.specs.Record.{placeAt, queueAt, freePlace, withPlace, withQueue, withOpened, emptyOf, sealing}
 use Rattle.group_record.specs.declared.record.Place.{Place}
 use Rattle.group_record.specs.declared.record.Groups.{Groups}
+use Rattle.group_asking.specs.Questions.{isYes, stuck, finishes}
 use Rattle.group_asking.specs.Scan.{someYes}
 use Rattle.group_asking.specs.declared.questions.Question.the-variants.{Holds, Live, Pending, Issued, Failed, Unfinished, Undrained}
 use Rattle.group_check.specs.WellFormed.{lastBase, wellGrouped}
@@ -63,7 +65,7 @@ use Rattle.cleanup_groups.proofs.Sounds.{sound-means}
 use Rattle.cleanup_groups.proofs.Keeps.{spot-live, by-round, call-whole, call-keeps, run-whole, run-keeps}
 use Rattle.cleanup_groups.proofs.Asked.{told-yes, yes-told, pending-means, means-pending, issued-means, means-issued, failed-means, means-failed}
 use Rattle.cleanup_groups.proofs.Asked.{retry-all-means, means-retry-all, finish-means, means-finish, seal-means, means-seal, contains-means, means-contains}
-use Rattle.cleanup_groups.proofs.Drains.{drained-means, means-drained, close-means, seal-drops, drained-seals}
+use Rattle.cleanup_groups.proofs.Drains.{yes-is, drained-means, means-drained, close-means, seal-drops, drained-seals}
 use Rattle.cleanup_groups.proofs.Numbers.{scope-number, iterator-number, get-number, close-number, seal-number}
 use Rattle.cleanup_groups.proofs.NumbersById.{register-number, land-number, pop-number, complete-number, retry-number, admit-number, admit-without-number}
 use Rattle.cleanup_groups.proofs.NumbersById.{end-number, cancel-number, told-number, domain-number, accepts-number, whole-number, len-number, retry-all-number, dead-next}
@@ -81,7 +83,7 @@ use Rattle.cleanup_groups.proofs.Rounds.{round-no, round-yes, round-renews, rou
 use Rattle.cleanup_groups.proofs.Upstream.{round-at}
 use Rattle.history.specs.Benches.{BenchCall}
 use Rattle.demands.specs.CallTables.{saidBy, leftBy, toldTo, QueueQuestion, asksEmpty, asksIssued, asksPending, asksSettled, asksCancelled, asksFailed, asksRetry, asksFinish, asksDomain}
-use Rattle.demands.specs.CallTables.{saidOfGroups, groupsOrder, givenToGroups, GroupsNotRefusedWith0, GroupsRefusedAs, byId, isFor, toldById, RecordQuestion, recordTold, YesMeans}
+use Rattle.demands.specs.CallTables.{saidOfGroups, groupsOrder, givenToGroups, GroupsNotRefusedWith0, GroupsRefusedAs, byId, isFor, toldById, RecordQuestion, recordTold, Finishes, YesMeans}
 use Rattle.demands.specs.CallTables.{asksContains, asksNoneLive, asksSomePending, asksSomeIssued, asksSomeFailed, asksRetryAll, asksAllFinish, asksSeal, asksRoom}
 use Rattle.demands.specs.CallTables.{GroupQuestion, asksGroup, asksAccepts, asksQueue, asksRecord, asksLen, groupsTold, groupsAskedOrder, SixteenPlaces, LiveGroup}
 
@@ -377,6 +379,36 @@ round-keeps-place g i n =
     (λ _. by-round (λ (p : Place). p ≡ placeAt g i) g i (λ _ f. clash f n) (λ _. refl)))
 
 -- ---- what a yes means
+module _ (q : Queue) where
+  may-retry : not (stuck q) ≡ true → q .failed ≡ true → canRetryTold q ≡ Yes
+  may-retry h f = yes-is (canRetryTold q) (not-false _ (sym (pass _ f) ∙ not-true _ h))
+
+  retry-may : (q .failed ≡ true → canRetryTold q ≡ Yes) → not (stuck q) ≡ true
+  retry-may h = go (q .failed) refl
+    where
+      go : (b : Bool) → q .failed ≡ b → not (stuck q) ≡ true
+      go true f = ap not (pass _ f ∙ ap (λ (t : Told). not (isYes t)) (h f))
+      go false f = ap not (stop _ f)
+
+module _ (g : Groups) (target : List ℕ) (i : ℕ) where
+  abbrev last-asked : Bool
+  last-asked = eqb (idAt g i) 0 || isYes (canFinishTold (queueAt g i) target)
+
+  may-finish : finishes (idAt g i) (queueAt g i) target ≡ true → Finishes g target i
+  may-finish h =
+      let r : (not (queueAt g i .failed) && last-asked) ≡ true = and-right (not (isPending (queueAt g i .phase))) _ h in (
+        not-true _ (and-left (not (isPending (queueAt g i .phase))) _ h),
+        not-true _ (and-left (not (queueAt g i .failed)) _ r),
+        λ n. yes-is _ (sym (other _ (ne-eqb (idAt g i) 0 n)) ∙ and-right (not (queueAt g i .failed)) last-asked r),
+      )
+
+  finish-may : Finishes g target i → finishes (idAt g i) (queueAt g i) target ≡ true
+  finish-may f = pass _ (ap not (f .0)) ∙ (pass _ (ap not (f .1)) ∙ go (eqb (idAt g i) 0) refl)
+    where
+      go : (b : Bool) → eqb (idAt g i) 0 ≡ b → last-asked ≡ true
+      go true e = either _ e
+      go false e = other _ e ∙ ap isYes (f .2 (eqb-false (idAt g i) 0 e))
+
 module _ (g : Groups) (l : SixteenPlaces g) where
   abbrev Meaning : RecordQuestion → Type 0
   Meaning a = (recordTold g a ≡ Yes) ↔ ((wellGrouped g ≡ true) × YesMeans g a)
@@ -395,7 +427,13 @@ module _ (g : Groups) (l : SixteenPlaces g) where
   yes-means asksSomePending = (λ h. (told-yes g (someYes g Pending []) h .0, pending-means g l h), λ m. means-pending g l (m .0) (m .1))
   yes-means asksSomeIssued = (λ h. (told-yes g (someYes g Issued []) h .0, issued-means g l h), λ m. means-issued g l (m .0) (m .1))
   yes-means asksSomeFailed = (λ h. (told-yes g (someYes g Failed []) h .0, failed-means g l h), λ m. means-failed g l (m .0) (m .1))
-  yes-means asksRetryAll = (λ h. (told-yes g (retriesAll g) h .0, retry-all-means g l h), λ m. means-retry-all g l (m .0) (m .1 .0) (m .1 .1))
-  yes-means (asksAllFinish target) = (λ h. (told-yes g (not (someYes g Unfinished target)) h .0, finish-means g l target h), λ m. means-finish g l target (m .0) (m .1))
+  yes-means asksRetryAll = (
+    λ h. let r = retry-all-means g l h in (told-yes g (retriesAll g) h .0, (r .0, λ i k a. may-retry (queueAt g i) (r .1 i k a))),
+    λ m. means-retry-all g l (m .0) (m .1 .0) (λ i k a. retry-may (queueAt g i) (m .1 .1 i k a)),
+  )
+  yes-means (asksAllFinish target) = (
+    λ h. (told-yes g (not (someYes g Unfinished target)) h .0, λ i k a. may-finish g target i (finish-means g l target h i k a)),
+    λ m. means-finish g l target (m .0) (λ i k a. finish-may g target i (m .1 i k a)),
+  )
   yes-means asksSeal = (seal-yes, λ m. yes-seal (m .0) (m .1))
   yes-means asksRoom = (λ h. (told-yes g (roomFor g) h .0, may-open g h), λ m. opened-may g (g .next) (m .1))

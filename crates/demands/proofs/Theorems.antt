@@ -10,14 +10,15 @@ use Rattle.queue_record.specs.declared.record.Queue.{Queue}
 use Rattle.queue_record.proofs.Opened.{opened-well-formed}
 use Rattle.stage.proofs.Sets.{same-means, means-same}
 use Rattle.queue_questions.specs.Questions.{committed, matches}
-use Rattle.cleanup_queue.specs.Orders.{firstDue, RefusedAs, brokenOnly}
+use Rattle.cleanup_queue.specs.Orders.{firstDue, firstSaid, RefusedAs, brokenOnly}
 use Rattle.cleanup_queue.proofs.Numbers.{opening-number, register-number, land-number, pop-number, complete-number, retry-number, questions-number}
 use Rattle.cleanup_queue.proofs.Numbers.{admit-number, end-number, cancel-number, domain-number}
 use Rattle.cleanup_queue.proofs.Said.{opening-refused, register-refused, land-refused, pop-refused, complete-refused, retry-refused, admit-refused}
 use Rattle.cleanup_queue.proofs.Said.{end-refused, cancel-refused, opening-no-zero, register-no-zero, land-no-zero, pop-no-zero, complete-no-zero}
-use Rattle.cleanup_queue.proofs.Said.{retry-no-zero, admit-no-zero, end-no-zero, cancel-no-zero, retry-said, admit-said, end-said}
-use Rattle.cleanup_queue.proofs.HandsOut.{pop-exactly, pop-hands}
-use Rattle.cleanup_queue.proofs.Upstream.{waiting-rises, call-keeps-opening, register-leaves, land-leaves, register-pushes, land-pushes, land-moves}
+use Rattle.cleanup_queue.proofs.Said.{retry-no-zero, admit-no-zero, end-no-zero, cancel-no-zero}
+use Rattle.cleanup_queue.proofs.Said.{register-said, land-said, pop-said, complete-said, retry-said, admit-said, end-said, cancel-said}
+use Rattle.cleanup_queue.proofs.HandsOut.{pop-exactly, pop-hands, pop-never-hollow}
+use Rattle.cleanup_queue.proofs.Upstream.{waiting-rises, waits-exactly, call-keeps-opening, register-leaves, land-leaves, register-pushes, land-pushes, land-moves}
 use Rattle.cleanup_queue.proofs.Upstream.{pop-empties, pop-leaves, pop-next, pop-issues, complete-leaves, complete-takes-back, told-retries, retries-told}
 use Rattle.cleanup_queue.proofs.Upstream.{admit-leaves, end-leaves, cancel-leaves, admit-moves, end-moves, cancel-moves}
 use Rattle.cleanup_queue.proofs.Precisely.{settles-exactly, retry-leaves-whole, retries-exactly, empty-exactly}
@@ -59,7 +60,7 @@ use Rattle.history.proofs.WordLogs.{word-logs}
 use Rattle.library_laws.proofs.Sounds.{scope-sound, iterator-sound}
 use Rattle.library_laws.proofs.Sessions.{session-sound, read-back-same}
 use Rattle.library_laws.proofs.NeverOne.{never-one, never-one-asked}
-use Rattle.demands.specs.CallTables.{saidBy, orderOf, givenTo, NotRefusedWith0, RecordedNotRefusedWith0, leftBy, QueueQuestion, asksEmpty, asksIssued, asksPending, asksSettled}
+use Rattle.demands.specs.CallTables.{saidBy, orderOf, givenTo, NotRefusedWith0, RecordedNotRefusedWith0, leftBy, ownValues, QueueQuestion, asksEmpty, asksIssued, asksPending, asksSettled}
 use Rattle.demands.specs.CallTables.{asksCancelled, asksFailed, asksRetry, asksFinish, asksDomain, toldTo}
 use Rattle.demands.specs.Demands.{Demand1, Demand2, Demand3, LibraryDemand}
 use Rattle.demands.proofs.QuestionTheorems.{asks-say, asked-valued, asked-valued-by-id, accepts-valued, record-valued, len-tells}
@@ -135,6 +136,17 @@ nothing-changed q BenchCall.admitWithout = admit-refused q false
 nothing-changed q BenchCall.end = end-refused q
 nothing-changed q BenchCall.cancel = cancel-refused q
 
+calls-say : (q : Queue) (c : BenchCall) → saidBy q c ≡ firstSaid (orderOf q c) (givenTo c) (ownValues q c)
+calls-say q (BenchCall.register n) = register-said q n
+calls-say q (BenchCall.land n) = land-said q n
+calls-say q BenchCall.pop = pop-said q
+calls-say q (BenchCall.complete t o k) = complete-said q t o k
+calls-say q BenchCall.retry = retry-said q
+calls-say q (BenchCall.admit target) = admit-said q (matches q target)
+calls-say q BenchCall.admitWithout = admit-said q false
+calls-say q BenchCall.end = end-said q
+calls-say q BenchCall.cancel = cancel-said q
+
 pub demand1 : Demand1
 demand1 = record {
   oneNumber = one-number;
@@ -144,6 +156,7 @@ demand1 = record {
   refusalIsNot0 = (not-refused-with-0, opening-no-zero);
   recordedRefusalIsNot0 = recorded-not-refused-with-0;
   askedRefusalIsNot0 = (asked-valued, asked-valued-by-id, accepts-valued, record-valued, len-tells);
+  neverHollow = pop-never-hollow;
   nothingChanged = nothing-changed;
   blankOpening = opening-refused;
   nothingChangedRecorded = λ b c. refused-stays b (callOn (b .queue) c);
@@ -171,18 +184,18 @@ demand2 = record {
   completeLeaves = λ q t o k h. let l = complete-leaves q t o k in (complete-takes-back q t o k h, l .0, l .1);
   retriesExactly = retries-exactly;
   retryLeaves = retry-leaves-whole;
+  stageTable = (refl, refl, refl, refl, refl);
   stageLeaves = λ q m. (admit-leaves q m, end-leaves q, cancel-leaves q);
   stageMoves = λ q m w. (admit-moves q m w, end-moves q w, cancel-moves q w);
   matchMeans = λ q target. (same-means target (committed q), means-same target (committed q));
-  admitSays = admit-said;
-  endSays = end-said;
-  retrySays = retry-said;
+  callsSay = calls-say;
   asksSay = asks-say;
   emptyMeans = empty-exactly;
   canRetryMeans = λ q. (told-retries q, λ r. retries-told q (r .0) (r .1));
   markedCases = marked-cases;
   handsOutExactly = pop-exactly;
   handsOutThis = pop-hands;
+  waitsExactly = waits-exactly;
   waitingRises = waiting-rises;
   birthWaitsLast = λ q z n. (register-appends q n z, land-appends q n z);
   popTakesLast = fresh-pop-drops;

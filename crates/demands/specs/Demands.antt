@@ -7,10 +7,11 @@ use mathlib.Core.List.{List, [], _∷_}
 use lib.ListN.{length, take, set, replicate}
 use Rattle.queue_record.specs.Record.{Sized}
 use Rattle.choice.specs.Choice.{if_then_else_}
-use Rattle.stage.specs.Bindings.{SameMembers}
+use Rattle.stage.specs.Bindings.{member, SameMembers}
 use Rattle.stage.specs.Phases.{phaseAfter, isPending, isCancelled}
+use Rattle.stage.specs.declared.phases.Phase.{Phase}
 use Rattle.stage.specs.declared.phases.Event.{Event}
-use Rattle.queue_record.specs.Refusals.{done, broken, noGroup, badLog}
+use Rattle.queue_record.specs.Refusals.{done, broken, hollow, noGroup, badLog}
 use Rattle.queue_record.specs.WellFormed.{wellFormed}
 use Rattle.queue_record.specs.Waiting.{waiting}
 use Rattle.queue_record.specs.Openings.{Opening, blank, scopeOf, iteratorOf, openedAs}
@@ -22,15 +23,16 @@ use Rattle.queue_decisions.specs.Slots.{noMore}
 use Rattle.queue_births.specs.Births.{registered, landed}
 use Rattle.queue_steps.specs.Attempts.{slot, popped, completed, retried}
 use Rattle.queue_births.specs.declared.births.Registered.{Registered}
+use Rattle.queue_steps.specs.declared.attempts.Popped.{Popped}
 use Rattle.queue_steps.specs.declared.attempts.Popped.the-variants.{Work}
 use Rattle.queue_steps.specs.declared.attempts.Completed.{Completed}
 use Rattle.queue_steps.specs.declared.attempts.Retried.{Retried}
 use Rattle.queue_stages.specs.Stages.{admitted, ended, cancelledBy}
 use Rattle.queue_questions.specs.Questions.{yesOrNo, committed, matches, isEmptyTold, canRetryTold, canFinishTold}
 use Rattle.queue_questions.specs.declared.questions.Told.the-variants.{Yes}
-use Rattle.cleanup_queue.specs.Answers.{says, openedSays, retriedSays, toldSays}
+use Rattle.cleanup_queue.specs.Answers.{says, openedSays, toldSays}
 use Rattle.cleanup_queue.specs.Marked.{table, definitionSays, paperSays}
-use Rattle.cleanup_queue.specs.Orders.{firstDue, firstSaid, RefusedAs, openingOrder, retryOrder, renewedValues, brokenOnly, Tells}
+use Rattle.cleanup_queue.specs.Orders.{firstDue, firstSaid, RefusedAs, openingOrder, brokenOnly}
 use Rattle.cleanup_queue.specs.Parts.{OpenedParts, SameOpening, LeavesSelected, Pushes, Appends, Drops, TakesNext, TakesBack, RenewsTo, StaysButPhase}
 use Rattle.cleanup_queue.specs.Promises.{handsOut, mayHandOut, HandedOut, Finishable}
 use Rattle.cleanup_queue.specs.SoundQueues.{SoundQueue}
@@ -72,7 +74,7 @@ use Rattle.queue_words.specs.Exported.{Exported}
 use Rattle.gulberzan_c.specs.ReadBack.{ReadOn}
 use Rattle.library_laws.specs.Sessions.{Session, LibraryCall, sessionAfter, sessionAfterAll, openingBy, Recorder, usedWords}
 use Rattle.library_laws.specs.Results.{WordQuestion, askedOn, Returned, IsOne}
-use Rattle.demands.specs.CallTables.{saidBy, orderOf, givenTo, NotRefusedWith0, RecordedNotRefusedWith0, leftBy, QueueQuestion, toldTo, meantBy}
+use Rattle.demands.specs.CallTables.{saidBy, orderOf, givenTo, NotRefusedWith0, RecordedNotRefusedWith0, leftBy, ownValues, stageRow, QueueQuestion, toldTo, meantBy}
 use Rattle.demands.specs.CallTables.{saidOfGroups, groupsOrder, givenToGroups, GroupsNotRefusedWith0, GroupsRefusedAs, byId, isFor, toldById}
 use Rattle.demands.specs.CallTables.{RecordQuestion, recordTold, YesMeans, GroupQuestion, groupsTold, groupsAskedOrder, SixteenPlaces}
 use Rattle.demands.specs.CallTables.{LiveGroup}
@@ -92,6 +94,8 @@ pub record Demand1 : Type 0 where
   pub askedRefusalIsNot0 : ((q : Queue) (a : QueueQuestion) → toldTo q a ≡ says done [] → ⊥) × ((g : Groups) (id : ℕ) (a : QueueQuestion) → toldById g id a ≡ says done [] → ⊥)
       × ((g : Groups) (id : ℕ) → toldSays (acceptsIn g id) ≡ says done [] → ⊥) × ((g : Groups) (a : RecordQuestion) → toldSays (recordTold g a) ≡ says done [] → ⊥)
       × ((g : Groups) → lenSays (lenOf g) ≡ says done [] → ⊥)
+  -- 9 has its place in pop's order, and is never given
+  pub neverHollow : (q : Queue) → popped q .answer ≡ Popped.Refused hollow → ⊥
   pub nothingChanged : (q : Queue) (c : BenchCall) → RefusedAs q (givenTo c) (saidBy q c) (leftBy q c)
   pub blankOpening : (o : Opening) → RefusedAs blank [] (openedSays (openedAs o .answer)) (openedAs o .queue)
   pub nothingChangedRecorded : (b : Bench) (c : BenchCall) → (numberOf b (callOn (b .queue) c) ≡ done → ⊥) → called b (callOn (b .queue) c) ≡ b
@@ -133,15 +137,16 @@ pub record Demand2 : Type 0 where
       ↔ ((wellFormed q ≡ true) × (q .failed ≡ true) × (q .next < noMore) × ((s : Ticket) × (q .selection ≡ Of s) × (slot q (s .token) ≡ 0 → ⊥)))
   pub retryLeaves : (q : Queue) (t : Ticket) → retried q .answer ≡ Retried.Again t
       → (s : Ticket) × (q .selection ≡ Of s) × (t ≡ record { domain = s .domain; token = s .token; attempt = q .next }) × RenewsTo q t (retried q .queue)
+  -- R28 to R32, row by row: Idle, Pending, Ended, Stopping, Closed
+  pub stageTable : (stageRow Phase.Idle ≡ 1 ∷ 0 ∷ 0 ∷ 4 ∷ 0 ∷ 0 ∷ 0 ∷ []) × (stageRow Phase.Pending ≡ 1 ∷ 0 ∷ 2 ∷ 3 ∷ 1 ∷ 0 ∷ 0 ∷ []) × (stageRow Phase.Ended ≡ 2 ∷ 2 ∷ 2 ∷ 4 ∷ 0 ∷ 1 ∷ 0 ∷ [])
+      × (stageRow Phase.Stopping ≡ 3 ∷ 4 ∷ 4 ∷ 3 ∷ 1 ∷ 0 ∷ 1 ∷ []) × (stageRow Phase.Closed ≡ 4 ∷ 4 ∷ 4 ∷ 4 ∷ 0 ∷ 1 ∷ 1 ∷ [])
   -- admit, end and cancel move the phase by the table of R28, and nothing else; admit only where a target is given that matches
   pub stageLeaves : (q : Queue) (matched : Bool) → StaysButPhase q (admitted q matched .queue) × StaysButPhase q (ended q .queue) × StaysButPhase q (cancelledBy q .queue)
   pub stageMoves : (q : Queue) (matched : Bool) → wellFormed q ≡ true → (admitted q matched .queue .phase ≡ (if matched then phaseAfter (q .phase) Event.Admit else q .phase))
       × (ended q .queue .phase ≡ phaseAfter (q .phase) Event.End) × (cancelledBy q .queue .phase ≡ phaseAfter (q .phase) Event.Cancel)
   pub matchMeans : (q : Queue) (target : List ℕ) → (matches q target ≡ true) ↔ SameMembers target (committed q)
-  -- what they say: admit whether the stage is pending now, end whether it was, retry the renewed ticket; and what each question says
-  pub admitSays : (q : Queue) (matched : Bool) → Tells q (isPending (admitted q matched .queue .phase)) (admitted q matched .answer)
-  pub endSays : (q : Queue) → Tells q (isPending (q .phase)) (ended q .answer)
-  pub retrySays : (q : Queue) → retriedSays (retried q .answer) ≡ firstSaid (retryOrder q) [] (renewedValues q (q .selection))
+  -- what each call and each question says: the first refusal that is due with what it gives back, or 0 with its own values
+  pub callsSay : (q : Queue) (c : BenchCall) → saidBy q c ≡ firstSaid (orderOf q c) (givenTo c) (ownValues q c)
   pub asksSay : (q : Queue) (a : QueueQuestion) → toldTo q a ≡ firstSaid (brokenOnly q) [] (meantBy q a ∷ [])
   pub emptyMeans : (q : Queue) → (isEmptyTold q ≡ Yes) ↔ ((wellFormed q ≡ true) × (q .selection ≡ Free) × (waiting q ≡ []))
   pub canRetryMeans : (q : Queue) → (canRetryTold q ≡ Yes) ↔ ((t : Ticket) × (retried q .answer ≡ Retried.Again t))
@@ -150,6 +155,8 @@ pub record Demand2 : Type 0 where
   -- pop hands out exactly when something may be handed out, and then the ready ticket or the newest waiting token's
   pub handsOutExactly : (q : Queue) → handsOut (popped q .answer) ≡ mayHandOut q
   pub handsOutThis : (q : Queue) (t : Ticket) (number : ℕ) → popped q .answer ≡ Work t number → HandedOut q t number
+  -- a token waits exactly if its slot is full and it is not the selected one
+  pub waitsExactly : (q : Queue) (k : ℕ) → (member k (waiting q) ≡ true) ↔ ((slot q k ≡ 0 → ⊥) × ((t : Ticket) → q .selection ≡ Of t → t .token ≡ k → ⊥))
   -- the waiting order: ascending; a birth comes behind all, a fresh ticket takes the last
   pub waitingRises : (q : Queue) → Rising (waiting q)
   pub birthWaitsLast : (q : Queue) → Sized q → (n : ℕ) → Appends q (registered q n) × Appends q (landed q n)
