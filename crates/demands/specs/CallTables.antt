@@ -123,8 +123,8 @@ ownValues q BenchCall.end = bit (isPending (q .phase)) ∷ []
 ownValues q BenchCall.cancel = []
 
 -- ---- the table of the phases: those after admit, land, end and cancel by their numbers, and whether it is pending, settled, cancelled
-abbrev pub stageRow : Phase → List ℕ
-stageRow p = phaseNumber (phaseAfter p Event.Admit) ∷ phaseNumber (phaseAfter p Event.Land) ∷ phaseNumber (phaseAfter p Event.End) ∷ phaseNumber (phaseAfter p Event.Cancel) ∷ bit (isPending p) ∷ bit (isSettled p) ∷ bit (isCancelled p) ∷ []
+abbrev pub phaseLine : Phase → List ℕ
+phaseLine p = phaseNumber (phaseAfter p Event.Admit) ∷ phaseNumber (phaseAfter p Event.Land) ∷ phaseNumber (phaseAfter p Event.End) ∷ phaseNumber (phaseAfter p Event.Cancel) ∷ bit (isPending p) ∷ bit (isSettled p) ∷ bit (isCancelled p) ∷ []
 
 -- ---- the calls that only ask
 pub data QueueQuestion : Type 0 where

@@ -74,7 +74,7 @@ use Rattle.queue_words.specs.Exported.{Exported}
 use Rattle.gulberzan_c.specs.ReadBack.{ReadOn}
 use Rattle.library_laws.specs.Sessions.{Session, LibraryCall, sessionAfter, sessionAfterAll, openingBy, Recorder, usedWords}
 use Rattle.library_laws.specs.Results.{WordQuestion, askedOn, Returned, IsOne}
-use Rattle.demands.specs.CallTables.{saidBy, orderOf, givenTo, NotRefusedWith0, RecordedNotRefusedWith0, leftBy, ownValues, stageRow, QueueQuestion, toldTo, meantBy}
+use Rattle.demands.specs.CallTables.{saidBy, orderOf, givenTo, NotRefusedWith0, RecordedNotRefusedWith0, leftBy, ownValues, phaseLine, QueueQuestion, toldTo, meantBy}
 use Rattle.demands.specs.CallTables.{saidOfGroups, groupsOrder, givenToGroups, GroupsNotRefusedWith0, GroupsRefusedAs, byId, isFor, toldById}
 use Rattle.demands.specs.CallTables.{RecordQuestion, recordTold, YesMeans, GroupQuestion, groupsTold, groupsAskedOrder, SixteenPlaces}
 use Rattle.demands.specs.CallTables.{LiveGroup}
@@ -138,8 +138,8 @@ pub record Demand2 : Type 0 where
   pub retryLeaves : (q : Queue) (t : Ticket) → retried q .answer ≡ Retried.Again t
       → (s : Ticket) × (q .selection ≡ Of s) × (t ≡ record { domain = s .domain; token = s .token; attempt = q .next }) × RenewsTo q t (retried q .queue)
   -- R28 to R32, row by row: Idle, Pending, Ended, Stopping, Closed
-  pub stageTable : (stageRow Phase.Idle ≡ 1 ∷ 0 ∷ 0 ∷ 4 ∷ 0 ∷ 0 ∷ 0 ∷ []) × (stageRow Phase.Pending ≡ 1 ∷ 0 ∷ 2 ∷ 3 ∷ 1 ∷ 0 ∷ 0 ∷ []) × (stageRow Phase.Ended ≡ 2 ∷ 2 ∷ 2 ∷ 4 ∷ 0 ∷ 1 ∷ 0 ∷ [])
-      × (stageRow Phase.Stopping ≡ 3 ∷ 4 ∷ 4 ∷ 3 ∷ 1 ∷ 0 ∷ 1 ∷ []) × (stageRow Phase.Closed ≡ 4 ∷ 4 ∷ 4 ∷ 4 ∷ 0 ∷ 1 ∷ 1 ∷ [])
+  pub stageTable : (phaseLine Phase.Idle ≡ 1 ∷ 0 ∷ 0 ∷ 4 ∷ 0 ∷ 0 ∷ 0 ∷ []) × (phaseLine Phase.Pending ≡ 1 ∷ 0 ∷ 2 ∷ 3 ∷ 1 ∷ 0 ∷ 0 ∷ []) × (phaseLine Phase.Ended ≡ 2 ∷ 2 ∷ 2 ∷ 4 ∷ 0 ∷ 1 ∷ 0 ∷ [])
+      × (phaseLine Phase.Stopping ≡ 3 ∷ 4 ∷ 4 ∷ 3 ∷ 1 ∷ 0 ∷ 1 ∷ []) × (phaseLine Phase.Closed ≡ 4 ∷ 4 ∷ 4 ∷ 4 ∷ 0 ∷ 1 ∷ 1 ∷ [])
   -- admit, end and cancel move the phase by the table of R28, and nothing else; admit only where a target is given that matches
   pub stageLeaves : (q : Queue) (matched : Bool) → StaysButPhase q (admitted q matched .queue) × StaysButPhase q (ended q .queue) × StaysButPhase q (cancelledBy q .queue)
   pub stageMoves : (q : Queue) (matched : Bool) → wellFormed q ≡ true → (admitted q matched .queue .phase ≡ (if matched then phaseAfter (q .phase) Event.Admit else q .phase))
@@ -172,7 +172,7 @@ pub record Demand2 : Type 0 where
   pub openedAsGiven : (o : Opening) → openedAs o .answer ≡ Opened.Open → OpenedParts o (openedAs o .queue)
   -- from it on, whatever is called: well formed, attempts first, plus 1, plus 2, and tokens 0 to 63
   pub staysSound : (o : Opening) (cs : List Call) → wellFormed (afterAll (openedAs o .queue) cs) ≡ true
-  pub soundStays : (q : Queue) (cs : List Call) → wellFormed q ≡ true → wellFormed (afterAll q cs) ≡ true
+  pub soundQueueStays : (q : Queue) (cs : List Call) → wellFormed q ≡ true → wellFormed (afterAll q cs) ≡ true
   pub attemptsExactly : (o : Opening) → openedAs o .answer ≡ Opened.Open → o .heading .first ≤ noMore → (cs : List Call)
       → Counts (o .heading .first) noMore (attempts (openedAs o .queue) cs)
   pub tokensExactly : (o : Opening) → openedAs o .answer ≡ Opened.Open → (cs : List Call) → Counts 0 64 (tokens (openedAs o .queue) cs)
