@@ -15,7 +15,7 @@ use Rattle.queue_record.specs.declared.record.Selection.the-variants.{Free, Of}
 use Rattle.queue_record.specs.declared.record.Queue.{Queue}
 use Rattle.queue_record.proofs.Fit.{failed-not-issued}
 use Rattle.queue_decisions.specs.Slots.{noMore}
-use Rattle.queue_steps.specs.Attempts.{slot, completed, retryAllowed, renewed, again, retried}
+use Rattle.queue_steps.specs.Attempts.{slot, completed, retryAllowed, renewed, retried}
 use Rattle.queue_steps.specs.declared.attempts.Completed.the-variants.{Settled}
 use Rattle.queue_steps.specs.declared.attempts.CompleteAnswer.{CompleteAnswer}
 use Rattle.queue_steps.specs.declared.attempts.Retried.the-variants.{Again}

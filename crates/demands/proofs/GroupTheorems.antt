@@ -39,7 +39,7 @@ use Rattle.group_check.specs.declared.ids.Spot.{Spot}
 use Rattle.group_check.specs.declared.ids.Got.{Got}
 use Rattle.group_check.specs.declared.ids.GetAnswer.{GetAnswer}
 use Rattle.group_check.proofs.Spots.{spot-means}
-use Rattle.group_questions.specs.ById.{toldBy, domainBy}
+use Rattle.group_questions.specs.ById.{toldBy, domainBy, acceptsIn}
 use Rattle.group_survey.specs.Whole.{retriesAll, roomFor, canRetryAllOf, canSealOf}
 use Rattle.group_openings.specs.Openings.{newOf, unsealed}
 use Rattle.group_openings.specs.declared.openings.Added.{Added}
@@ -287,8 +287,14 @@ module _ (g : Groups) (id : ℕ) (l : SixteenPlaces g) (w : wellGrouped g ≡ tr
   dead-close = close-number g id ∙ (miss _ (ap not w) ∙ hit _ (ap not unheld))
 
   pub no-such-group : ((c : BenchCall) → saidOfGroups g (byId id c) .number ≡ noGroup) × (saidOfGroups g (GroupCall.remove id) .number ≡ noGroup)
-      × ((a : QueueQuestion) → toldById g id a .number ≡ noGroup)
-  no-such-group = (dead-step, dead-close, λ a. by-id-number g id a ∙ dead-next g id brokenOnly w unheld)
+      × ((a : QueueQuestion) → toldById g id a .number ≡ noGroup) × (toldSays (acceptsIn g id) .number ≡ noGroup) × (gotSays (got g id .answer) .number ≡ noGroup)
+  no-such-group = (
+    dead-step,
+    dead-close,
+    λ a. by-id-number g id a ∙ dead-next g id brokenOnly w unheld,
+    accepts-number g id ∙ dead-next g id brokenOnly w unheld,
+    get-number g id ∙ (miss _ (ap not w) ∙ hit _ (ap not unheld)),
+  )
 
 -- ---- the groups that a call is not for
 module _ (g : Groups) (l : SixteenPlaces g) where

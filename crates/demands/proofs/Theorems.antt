@@ -1,13 +1,17 @@
 -- The three demands hold, and the library's: each field by the law that says it
-use Prim.Native.Nat.{ℕ}
-use mathlib.Core.Path.{_≡_, refl}
+use Prim.Native.Nat.{ℕ, _<_}
+use mathlib.Core.Path.{_≡_, refl, ap, _∙_}
+use mathlib.Core.Logic.{_↔_}
 use mathlib.Core.Bool.{false}
 use mathlib.Core.List.{List, []}
+use native.Mathlib.Omega.{arith}
 use lib.ListN.{length}
 use Rattle.queue_record.specs.Refusals.{done}
-use Rattle.queue_record.specs.Openings.{openedAs}
+use Rattle.queue_record.specs.Blank.{isBlank}
+use Rattle.queue_record.specs.Openings.{blank, scopeOf, openedAs}
 use Rattle.queue_record.specs.declared.record.Queue.{Queue}
 use Rattle.queue_record.proofs.Opened.{opened-well-formed}
+use Rattle.queue_record.proofs.BlankOnly.{blank-passes, blank-only}
 use Rattle.stage.proofs.Sets.{same-means, means-same}
 use Rattle.queue_questions.specs.Questions.{committed, matches}
 use Rattle.cleanup_queue.specs.Orders.{firstDue, firstSaid, RefusedAs, brokenOnly}
@@ -38,9 +42,13 @@ use Rattle.cleanup_log.proofs.RecordedApart.{register-recorded-apart, land-reco
 use Rattle.cleanup_log.proofs.RecordedApart.{retry-recorded-apart, admit-recorded-apart, end-recorded-apart, cancel-recorded-apart}
 use Rattle.cleanup_log.proofs.RecordedNumbers.{admit-recorded-number, end-recorded-number, cancel-recorded-number}
 use Rattle.cleanup_log.proofs.RecordedNumbers.{register-recorded-returns, land-recorded-returns, complete-recorded-returns}
+use Rattle.group_record.specs.Record.{placeAt}
+use Rattle.group_record.specs.declared.record.Groups.{Groups}
+use Rattle.group_check.specs.Count.{liveCount}
 use Rattle.group_openings.specs.Openings.{newOf}
 use Rattle.cleanup_groups.specs.Promises.{idAt}
 use Rattle.cleanup_groups.proofs.Numbers.{new-number}
+use Rattle.cleanup_groups.proofs.Counts.{count-none, none-count, scope-counts, iterator-counts, close-counts}
 use Rattle.cleanup_groups.proofs.Sounds.{sound-means, means-sound}
 use Rattle.cleanup_groups.proofs.Keeps as groups
 use Rattle.cleanup_groups.proofs.Live.{accepts-as}
@@ -61,7 +69,7 @@ use Rattle.library_laws.proofs.Sounds.{scope-sound, iterator-sound}
 use Rattle.library_laws.proofs.Sessions.{session-sound, read-back-same}
 use Rattle.library_laws.proofs.NeverOne.{never-one, never-one-asked}
 use Rattle.demands.specs.CallTables.{saidBy, orderOf, givenTo, NotRefusedWith0, RecordedNotRefusedWith0, leftBy, ownValues, QueueQuestion, asksEmpty, asksIssued, asksPending, asksSettled}
-use Rattle.demands.specs.CallTables.{asksCancelled, asksFailed, asksRetry, asksFinish, asksDomain, toldTo}
+use Rattle.demands.specs.CallTables.{asksCancelled, asksFailed, asksRetry, asksFinish, asksDomain, toldTo, SixteenPlaces}
 use Rattle.demands.specs.Demands.{Demand1, Demand2, Demand3, LibraryDemand}
 use Rattle.demands.proofs.QuestionTheorems.{asks-say, asked-valued, asked-valued-by-id, accepts-valued, record-valued, len-tells}
 use Rattle.demands.proofs.GroupTheorems.{one-number-groups, one-number-groups-asked, groups-not-refused-with-0, groups-unchanged, empty-new, blank-get, new-has-root}
@@ -147,6 +155,13 @@ calls-say q BenchCall.admitWithout = admit-said q false
 calls-say q BenchCall.end = end-said q
 calls-say q BenchCall.cancel = cancel-said q
 
+blank-is : blank ≡ scopeOf 0 0
+unfolding blank
+blank-is = refl
+
+counts-none : (g : Groups) → SixteenPlaces g → (liveCount (g .places) ≡ 0) ↔ ((i : ℕ) → i < 16 → placeAt g i .live ≡ false)
+counts-none g l = (λ h i k. count-none (g .places) h i (omega arith), λ f. none-count (g .places) (λ i k. f i (omega arith)))
+
 pub demand1 : Demand1
 demand1 = record {
   oneNumber = one-number;
@@ -204,6 +219,7 @@ demand2 = record {
   finishMeans = λ q target. (finish-means q target, means-finish q target);
   finishHappens = finish-with-bindings;
   openedAsGiven = opened-parts;
+  blankMeans = (blank-is, λ q z. (blank-only q z, λ e. ap isBlank e ∙ blank-passes));
   staysSound = λ o cs. run-keeps (openedAs o .queue) cs (opened-well-formed o);
   soundQueueStays = run-keeps;
   attemptsExactly = attempts-exactly;
@@ -217,8 +233,8 @@ demand2 = record {
   checkMeansSound = λ g l. (sound-means g l, means-sound g l);
   newHasRoot = new-has-root;
   groupsStaySound = λ base cs. let l = groups.new-whole base in (groups.run-keeps (newOf base .groups) cs l (groups.new-keeps base), groups.run-whole (newOf base .groups) cs l);
-  opensExactly = λ g l. (scope-opens-exactly g l, iterator-opens-exactly g l);
   soundGroupsStay = λ g cs l w. (groups.run-keeps g cs l w, groups.run-whole g cs l);
+  opensExactly = λ g l. (scope-opens-exactly g l, iterator-opens-exactly g l);
   openedGroup = λ g l n. (scope-as g l n, λ bindings h. iterator-as g l n bindings h .1);
   goneForGood = gone-stays;
   closedForGood = closed-for-good;
@@ -236,6 +252,7 @@ demand2 = record {
   roundHappens = round-said-yes;
   yesMeans = yes-means;
   lenTells = len-says;
+  lenCounts = λ g l. (counts-none g l, scope-counts g l, λ bindings n. iterator-counts g l n bindings, close-counts g l);
 }
 
 pub demand3 : Demand3

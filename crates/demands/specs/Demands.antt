@@ -13,6 +13,7 @@ use Rattle.stage.specs.declared.phases.Phase.{Phase}
 use Rattle.stage.specs.declared.phases.Event.{Event}
 use Rattle.queue_record.specs.Refusals.{done, broken, hollow, noGroup, badLog}
 use Rattle.queue_record.specs.WellFormed.{wellFormed}
+use Rattle.queue_record.specs.Blank.{isBlank}
 use Rattle.queue_record.specs.Waiting.{waiting}
 use Rattle.queue_record.specs.Openings.{Opening, blank, scopeOf, iteratorOf, openedAs}
 use Rattle.queue_record.specs.declared.record.Ticket.{Ticket}
@@ -116,7 +117,7 @@ pub record Demand1 : Type 0 where
 pub record Demand2 : Type 0 where
   -- the check says yes to exactly the records of R13 to R20
   pub wellFormedMeans : (q : Queue) → (wellFormed q ≡ true) ↔ SoundQueue q
-  -- every call leaves what the opening gave: kind, domain and bindings; and the others, part by part
+  -- every call leaves what the opening gave: kind, domain and bindings. What becomes of the other parts follows, call by call
   pub openingStays : (q : Queue) (c : Call) → SameOpening q (after q c)
   -- a token given: the number stands in its slot, the count rises by 1; nothing else changes, but the phase by a land
   pub birthStores : (q : Queue) → Sized q → (n : ℕ) → Pushes q n (registered q n) × Pushes q n (landed q n)
@@ -170,12 +171,15 @@ pub record Demand2 : Type 0 where
   pub finishHappens : canFinishTold (iteratorOf 0 0 (4 ∷ 9 ∷ [])) (9 ∷ 4 ∷ 9 ∷ []) ≡ Yes
   -- what an opening leaves, every part
   pub openedAsGiven : (o : Opening) → openedAs o .answer ≡ Opened.Open → OpenedParts o (openedAs o .queue)
+  -- the blank queue is the scope of domain 0 and first attempt 0, and its test says yes to no other
+  pub blankMeans : (blank ≡ scopeOf 0 0) × ((q : Queue) → Sized q → (isBlank q ≡ true) ↔ (q ≡ blank))
   -- from it on, whatever is called: well formed, attempts first, plus 1, plus 2, and tokens 0 to 63
   pub staysSound : (o : Opening) (cs : List Call) → wellFormed (afterAll (openedAs o .queue) cs) ≡ true
-  pub soundQueueStays : (q : Queue) (cs : List Call) → wellFormed q ≡ true → wellFormed (afterAll q cs) ≡ true
   pub attemptsExactly : (o : Opening) → openedAs o .answer ≡ Opened.Open → o .heading .first ≤ noMore → (cs : List Call)
       → Counts (o .heading .first) noMore (attempts (openedAs o .queue) cs)
   pub tokensExactly : (o : Opening) → openedAs o .answer ≡ Opened.Open → (cs : List Call) → Counts 0 64 (tokens (openedAs o .queue) cs)
+  -- and from any other well-formed queue on
+  pub soundQueueStays : (q : Queue) (cs : List Call) → wellFormed q ≡ true → wellFormed (afterAll q cs) ≡ true
   -- the groups. A call on a live id says what the queue's own call says, and that place alone has the queue that it leaves
   pub groupAsQueue : (g : Groups) (i : ℕ) → LiveGroup g i → (c : BenchCall) → (saidOfGroups g (byId (idAt g i) c) ≡ saidBy (queueAt g i) c)
       × (groupsAfter g (byId (idAt g i) c) ≡ withQueue g i (leftBy (queueAt g i) c))
@@ -185,17 +189,18 @@ pub record Demand2 : Type 0 where
   -- on any other id it says 10
   pub noSuchGroup : (g : Groups) (id : ℕ) → SixteenPlaces g → wellGrouped g ≡ true → (IsLive g id → ⊥)
       → ((c : BenchCall) → saidOfGroups g (byId id c) .number ≡ noGroup) × (saidOfGroups g (GroupCall.remove id) .number ≡ noGroup) × ((a : QueueQuestion) → toldById g id a .number ≡ noGroup)
+      × (toldSays (acceptsIn g id) .number ≡ noGroup) × (gotSays (got g id .answer) .number ≡ noGroup)
   -- a live group that a call is not for keeps its whole place
   pub otherGroupsStay : (g : Groups) → SixteenPlaces g → (c : GroupCall) (j : ℕ) → LiveAt g j → isFor c (idAt g j) ≡ false → placeAt (groupsAfter g c) j ≡ placeAt g j
   -- the check says yes to exactly the sound records; a new one has the root alone; from it on, whatever is called, it is sound
   pub checkMeansSound : (g : Groups) → SixteenPlaces g → (wellGrouped g ≡ true) ↔ Sound g
   pub newHasRoot : (base : ℕ) → base ≤ lastBase → newOf base ≡ record { answer = Opened.Open; groups = withOpened (emptyOf base) 0 (scopeOf base 0) }
   pub groupsStaySound : (base : ℕ) (cs : List GroupCall) → (wellGrouped (groupsAfterAll (newOf base .groups) cs) ≡ true) × SixteenPlaces (groupsAfterAll (newOf base .groups) cs)
-  -- an opening that is done gave the next id, and put a fresh queue into the lowest free place
-  -- a place is free and an id is left, and then exactly is an opening done; from any sound record on, whatever is called, it stays sound
+  -- and from any other sound record on
+  pub soundGroupsStay : (g : Groups) (cs : List GroupCall) → SixteenPlaces g → wellGrouped g ≡ true → (wellGrouped (groupsAfterAll g cs) ≡ true) × SixteenPlaces (groupsAfterAll g cs)
+  -- an opening is done exactly if there is room for it; it gave the next id, and put a fresh queue into the lowest free place and nowhere else
   pub opensExactly : (g : Groups) → SixteenPlaces g → (((n : ℕ) × (addedScope g .answer ≡ Added.Id n)) ↔ RoomToOpen g)
       × ((bindings : List ℕ) → ((n : ℕ) × (addedIterator g bindings .answer ≡ Added.Id n)) ↔ ((length bindings ≤ 16) × RoomToOpen g))
-  pub soundGroupsStay : (g : Groups) (cs : List GroupCall) → SixteenPlaces g → wellGrouped g ≡ true → (wellGrouped (groupsAfterAll g cs) ≡ true) × SixteenPlaces (groupsAfterAll g cs)
   pub openedGroup : (g : Groups) → SixteenPlaces g → (n : ℕ) → (addedScope g .answer ≡ Added.Id n → AddedAs g n (scopeOf (nextDomain g) 0) (addedScope g .groups))
       × ((bindings : List ℕ) → addedIterator g bindings .answer ≡ Added.Id n → AddedAs g n (iteratorOf (nextDomain g) 0 bindings) (addedIterator g bindings .groups))
   -- ids: one that was given and is not live never is again, that of a closed group too; live groups have domains of their own
@@ -220,9 +225,13 @@ pub record Demand2 : Type 0 where
   -- and what groups there are stays; it does say yes, here of a record whose root has failed
   pub roundFrame : (g : Groups) → Frame g (retriedAll g .groups)
   pub roundHappens : retriedAll (groupsAfterAll (newOf 0 .groups) (GroupCall.register 0 72 ∷ GroupCall.pop 0 ∷ GroupCall.complete 0 (record { domain = 0; token = 0; attempt = 0 }) 1 72 ∷ [])) .answer ≡ Yes
-  -- what a yes means, and how many are live
+  -- what a yes means, and how many are live: none, and 1 more with an opening, 1 less with a closing
   pub yesMeans : (g : Groups) → SixteenPlaces g → (a : RecordQuestion) → (recordTold g a ≡ Yes) ↔ ((wellGrouped g ≡ true) × YesMeans g a)
   pub lenTells : (g : Groups) → wellGrouped g ≡ true → lenSays (lenOf g) ≡ says done (liveCount (g .places) ∷ [])
+  pub lenCounts : (g : Groups) → SixteenPlaces g → ((liveCount (g .places) ≡ 0) ↔ ((i : ℕ) → i < 16 → placeAt g i .live ≡ false))
+      × ((n : ℕ) → addedScope g .answer ≡ Added.Id n → liveCount (addedScope g .groups .places) ≡ liveCount (g .places) + 1)
+      × ((bindings : List ℕ) (n : ℕ) → addedIterator g bindings .answer ≡ Added.Id n → liveCount (addedIterator g bindings .groups .places) ≡ liveCount (g .places) + 1)
+      × ((id : ℕ) → removed g id .answer ≡ Closed.Done → liveCount (removed g id .groups .places) + 1 ≡ liveCount (g .places))
 
 -- ---- demand 3: a log names each change; the reader accepts exactly the logs that recorded calls can leave, and finds what they leave
 pub record Demand3 : Type 0 where
