@@ -1,6 +1,7 @@
--- When one more group may be opened, and when no group is live
+-- When one more group may be opened and when an opening is done, and when no group is live
 use Prim.Native.Nat.{ℕ, _<_, _≤_}
 use mathlib.Core.Path.{_≡_, refl, sym, ap, _∙_}
+use mathlib.Core.Logic.{_↔_}
 use mathlib.Core.Bool.{Bool, true, false, not, _&&_}
 use mathlib.Core.List.{List, []}
 use native.Mathlib.Omega.{arith}
@@ -17,6 +18,7 @@ use Rattle.queue_record.specs.declared.search.Found.{Found}
 use Rattle.queue_record.specs.declared.search.Found.the-variants.{At, Missing}
 use Rattle.queue_questions.specs.declared.questions.Told.the-variants.{Yes}
 use Rattle.group_record.specs.Record.{placeAt}
+use Rattle.group_asking.specs.Questions.{asksOf}
 use Rattle.group_asking.specs.Scan.{firstYes, someYes}
 use Rattle.group_check.specs.WellFormed.{ids, wellGrouped}
 use Rattle.group_record.specs.declared.record.Groups.{Groups}
@@ -27,7 +29,11 @@ use Rattle.group_openings.specs.Openings.{unsealed, nextDomain, roomAt, roomOf,
 use Rattle.group_openings.specs.declared.openings.Added.{Added}
 use Rattle.group_openings.specs.declared.openings.AddAnswer.{AddAnswer}
 use Rattle.group_openings.proofs.Room.{unsealed-means, means-unsealed, room-means}
+use Rattle.cleanup_groups.specs.Promises.{RoomToOpen}
 use Rattle.cleanup_groups.proofs.ByCase.{scope-by, iterator-by}
+use Rattle.cleanup_groups.proofs.Every.{one-some}
+use Rattle.cleanup_groups.proofs.Sounds.{says-free}
+use Rattle.cleanup_groups.proofs.Keeps.{room-free}
 use Rattle.cleanup_groups.proofs.Asked.{told-yes, yes-told, none-means, means-none}
 
 -- ---- can_add: yes exactly if the opening of a scope is done, or of an iterator with few enough bindings
@@ -84,8 +90,45 @@ module _ (g : Groups) where
       iterator-by (λ (r : AddAnswer). r .answer ≡ Added.Id n → canAddOf g ≡ Yes) g
       (λ _ _ h. let z : _≡_ {A = ℕ} 0 1 = cc in absurd (omega arith)) bindings (λ i u _ e _. room-for i u e)
 
-  -- ---- is_empty: no group is live
   module _ (l : length (g .places) ≡ 16) where
+    -- ---- an opening is done exactly if the record is sound and not sealed, a place is free and an id is left
+    room-vacant : (i : ℕ) → unsealed g ≡ Open → roomOf g ≡ Spot.At i → RoomToOpen g
+    room-vacant i u e =
+        let v = unsealed-means g u in
+        let f = room-free g i l e in
+        (v .0, v .1, (i, f .0, f .1), room-means g i e .1)
+
+    vacant-opens : RoomToOpen g → addedScope g .answer ≡ Added.Id (g .next)
+    vacant-opens v = go (firstYes g Free []) refl
+      where
+        some : someYes g Free [] ≡ true
+        some =
+            let k : v .2 .0 < 16 = v .2 .1 in
+            one-some (asksOf Free []) (g .places) (v .2 .0) (omega arith) (says-free Free [] (placeAt g (v .2 .0)) (v .2 .2))
+
+        go : (f : Found) → firstYes g Free [] ≡ f → addedScope g .answer ≡ Added.Id (g .next)
+        go Missing e = clash some (ap isThere e)
+        go (At i) e = open-way (means-unsealed g (v .0) (v .1)) i e (v .3)
+
+    pub scope-opens-exactly : ((n : ℕ) × (addedScope g .answer ≡ Added.Id n)) ↔ RoomToOpen g
+    scope-opens-exactly = (λ h. opened (h .0) (h .1), λ v. (g .next, vacant-opens v))
+      where
+        opened : (n : ℕ) → addedScope g .answer ≡ Added.Id n → RoomToOpen g
+        opened n = scope-by (λ (r : AddAnswer). r .answer ≡ Added.Id n → RoomToOpen g) g (λ _ _ h. let z : _≡_ {A = ℕ} 0 1 = cc in absurd (omega arith)) (λ i u e _. room-vacant i u e)
+
+    -- an iterator's, exactly if its bindings are few enough too
+    pub iterator-opens-exactly : (bindings : List ℕ) → ((n : ℕ) × (addedIterator g bindings .answer ≡ Added.Id n)) ↔ ((length bindings ≤ 16) × RoomToOpen g)
+    iterator-opens-exactly bindings = (
+      λ h. opened (h .0) (h .1),
+      λ v. (g .next, iterator-way bindings (v .0) (vacant-opens (v .1)) (means-unsealed g (v .1 .0) (v .1 .1))),
+    )
+      where
+        opened : (n : ℕ) → addedIterator g bindings .answer ≡ Added.Id n → (length bindings ≤ 16) × RoomToOpen g
+        opened n =
+            iterator-by (λ (r : AddAnswer). r .answer ≡ Added.Id n → (length bindings ≤ 16) × RoomToOpen g) g
+            (λ _ _ h. let z : _≡_ {A = ℕ} 0 1 = cc in absurd (omega arith)) bindings (λ i u b e _. (b, room-vacant i u e))
+
+    -- ---- is_empty: no group is live
     pub empty-means : isEmptyOf g ≡ Yes → (i : ℕ) → i < 16 → placeAt g i .live ≡ false
     empty-means h i k = go (placeAt g i .live) refl
       where

@@ -7,7 +7,7 @@ use mathlib.Core.List.{List}
 use native.Mathlib.Omega.{arith}
 use borrow.Author.Tests.{lt-ltb, le-ltb, not-true}
 use lib.Dec.{ltb}
-use lib.ListN.{length}
+use lib.ListN.{length, set}
 use Rattle.choice.proofs.Ways.{if-by, hit, miss, pass, and-left, and-right, clash}
 use Rattle.stage.specs.Phases.{isPending}
 use Rattle.queue_record.specs.Openings.{scopeOf, iteratorOf}
@@ -71,6 +71,7 @@ module _ (g : Groups) (l : length (g .places) ≡ 16) (n : ℕ) where
         id = sym z;
         next = refl;
         unsealed = unsealed-means g u .1;
+        base = refl;
         place = i;
         inside = k .0;
         was = k .1;
@@ -78,6 +79,7 @@ module _ (g : Groups) (l : length (g .places) ≡ 16) (n : ℕ) where
         live = ap (λ (a : Place). a .live) p;
         named = ap (λ (a : Place). a .id) p ∙ z;
         queue = ap (λ (a : Place). a .queue) p;
+        places = ap (λ (m : ℕ). set (g .places) i (livePlace m q)) z;
       }
 
   pub scope-as : addedScope g .answer ≡ Added.Id n → AddedAs g n (scopeOf (nextDomain g) 0) (addedScope g .groups)

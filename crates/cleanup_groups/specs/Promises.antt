@@ -2,15 +2,16 @@
 use Prim.Native.Nat.{ℕ, _+_, _<_, _≤_}
 use mathlib.Core.Path.{_≡_}
 use mathlib.Core.Bool.{Bool, true, false}
+use lib.ListN.{set}
 use Rattle.queue_record.specs.Refusals.{done}
 use Rattle.queue_record.specs.Record.{Sized}
 use Rattle.queue_record.specs.WellFormed.{wellFormed}
 use Rattle.queue_record.specs.declared.record.Queue.{Queue}
 use Rattle.queue_record.specs.declared.record.Selection.the-variants.{Free}
 use Rattle.queue_steps.specs.Attempts.{slot}
-use Rattle.group_record.specs.Record.{placeAt, queueAt}
+use Rattle.group_record.specs.Record.{placeAt, queueAt, livePlace}
 use Rattle.group_record.specs.declared.record.Groups.{Groups}
-use Rattle.group_check.specs.WellFormed.{lastBase, ids}
+use Rattle.group_check.specs.WellFormed.{lastBase, ids, wellGrouped}
 use mathlib.Core.List.{[]}
 use Rattle.stage.specs.Phases.{isPending, isSettled}
 use Rattle.queue_record.specs.Waiting.{waiting}
@@ -56,11 +57,16 @@ pub record DrainedQueue (q : Queue) : Type 0 where
   pub settled : isSettled (q .phase) ≡ true
   pub pending : isPending (q .phase) ≡ false
 
+-- R64, R107: a group may be opened: the record is sound and not sealed, a place is free, and an id is left
+abbrev pub RoomToOpen : Groups → Type 0
+RoomToOpen g = (wellGrouped g ≡ true) × (g .sealed ≡ false) × ((i : ℕ) × (i < 16) × (placeAt g i .live ≡ false)) × (g .next < 65536)
+
 -- R107, R108: the record h after g, in which the queue q was opened under the id n
 pub record AddedAs (g : Groups) (n : ℕ) (q : Queue) (h : Groups) : Type 0 where
   pub id : n ≡ g .next
   pub next : h .next ≡ g .next + 1
   pub unsealed : h .sealed ≡ false
+  pub base : h .base ≡ g .base
   pub place : ℕ
   pub inside : place < 16
   pub was : placeAt g place .live ≡ false
@@ -68,6 +74,8 @@ pub record AddedAs (g : Groups) (n : ℕ) (q : Queue) (h : Groups) : Type 0 wher
   pub live : LiveAt h place
   pub named : idAt h place ≡ n
   pub queue : queueAt h place ≡ q
+  -- and no other place is stored to
+  pub places : h .places ≡ set (g .places) place (livePlace n q)
 
 -- R114: the record h is g with other queues; what groups there are stays
 pub record Frame (g h : Groups) : Type 0 where

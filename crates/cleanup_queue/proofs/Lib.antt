@@ -12,3 +12,5 @@ pub mod Upstream
 pub mod Births
 pub mod Targets
 pub mod Exactly
+pub mod Precisely
+pub mod SoundFits

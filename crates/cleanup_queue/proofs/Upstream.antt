@@ -1,7 +1,7 @@
 -- What each call asks, changes and leaves, part by part: upstream's clauses, whose ids are the rows of docs/CONTRACTS.md, and what these leave open
 use Prim.Native.Nat.{ℕ, zero, suc, _+_, _<_, _≤_}
 use mathlib.Core.Path.{_≡_, refl, sym, ap, _∙_}
-use mathlib.Core.Logic.{_⊎_, inl, inr, ⊎-elim}
+use mathlib.Core.Logic.{_⊎_, inl, inr, ⊎-elim, _↔_}
 use mathlib.Core.Bool.{Bool, true, false, not, _&&_, _||_}
 use mathlib.Core.List.{List, [], _∷_, _++_}
 use native.Mathlib.Omega.{arith}
@@ -153,6 +153,14 @@ module _ (q : Queue) (k : ℕ) where
           by : (b : Bool) → eqb k (t .token) ≡ b → (member k (without (t .token) (occupied 0 (q .slots))) ≡ true) ⊎ ((t : Ticket) × (q .selection ≡ Of t) × (t .token ≡ k) × (q .issued ≡ false))
           by true s = inr (t, e, sym (eqb-true k (t .token) s), not-out t e (sym (eqb-true k (t .token) s)) (q .issued) refl)
           by false n = inl (without-other k (t .token) (occupied 0 (q .slots)) (eqb-false k (t .token) n) ∙ here)
+
+  -- R11: a token waits exactly if its slot is full and it is not the selected one.
+  pub waits-exactly : (member k (waiting q) ≡ true) ↔ ((slot q k ≡ 0 → ⊥) × ((t : Ticket) → q .selection ≡ Of t → t .token ≡ k → ⊥))
+  waits-exactly = (λ m. (waiting-occupied m, λ t e s. clash m (ap (λ (j : ℕ). member j (waiting q)) (sym s) ∙ selected-not-waiting q t e)), λ h. go h (q .selection) refl)
+    where
+      go : (slot q k ≡ 0 → ⊥) × ((t : Ticket) → q .selection ≡ Of t → t .token ≡ k → ⊥) → (s : Selection) → q .selection ≡ s → member k (others s (occupied 0 (q .slots))) ≡ true
+      go h Free e = slot-member ∙ ap not (ne-eqb (slot q k) 0 (h .0))
+      go h (Of t) e = without-other k (t .token) (occupied 0 (q .slots)) (λ s. h .1 t e (sym s)) ∙ (slot-member ∙ ap not (ne-eqb (slot q k) 0 (h .0)))
 
 -- ---- the openings
 -- nothing selected and every place 0: nothing waits

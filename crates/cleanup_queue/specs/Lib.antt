@@ -4,3 +4,4 @@ pub mod Parts
 pub mod Runs
 pub mod Marked
 pub mod Orders
+pub mod SoundQueues

@@ -75,6 +75,11 @@ TakesNext q p = (q .selection ≡ Free → p .next ≡ q .next + 1) × ((s : Tic
 abbrev pub TakesBack : Queue → Ticket → ℕ → ℕ → Queue → Type 0
 TakesBack q t outcome kept p = (p .issued ≡ false) × (p .slots ≡ set (q .slots) (t .token) kept) × (p .count ≡ q .count) × (p .failed ≡ eqb outcome 1) × ((outcome ≡ 1 → p .selection ≡ Of t) × (outcome ≡ 0 → p .selection ≡ Free))
 
+-- ---- retry that gives the ticket t
+-- R55: it is selected, neither mark stands, next rises by 1; slots, count and phase stay
+abbrev pub RenewsTo : Queue → Ticket → Queue → Type 0
+RenewsTo q t p = (p .selection ≡ Of t) × (p .failed ≡ false) × (p .issued ≡ false) × (p .next ≡ q .next + 1) × (p .slots ≡ q .slots) × (p .count ≡ q .count) × (p .phase ≡ q .phase)
+
 -- ---- admit, end and cancel
 -- all but the phase stays
 abbrev pub StaysButPhase : Queue → Queue → Type 0

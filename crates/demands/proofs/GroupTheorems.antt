@@ -2,13 +2,14 @@
 use Prim.Native.Nat.{ℕ, _<_, _≤_}
 use mathlib.Core.Path.{_≡_, refl, sym, ap, _∙_, subst}
 use mathlib.Core.Logic.{_↔_}
-use mathlib.Core.Bool.{Bool, true, false, not}
+use mathlib.Core.Bool.{Bool, true, false, not, _&&_, _||_}
 use mathlib.Core.List.{List, [], _∷_}
 use native.Mathlib.Omega.{arith}
-use borrow.Author.Tests.{eqb-false, le-ltb}
-use lib.Dec.{ltb}
-use lib.ListN.{length}
-use Rattle.choice.proofs.Ways.{if-by, hit, miss, clash}
+use borrow.Author.Tests.{eqb-false, ne-eqb, le-ltb, not-true, not-false}
+use lib.Dec.{eqb, ltb}
+use lib.ListN.{length, replicate}
+use Rattle.stage.specs.Phases.{isPending}
+use Rattle.choice.proofs.Ways.{if-by, hit, miss, pass, stop, either, other, and-left, and-right, clash}
 use Rattle.queue_record.specs.Refusals.{done, noGroup}
 use Rattle.queue_record.specs.Openings.{blank, scopeOf}
 use Rattle.queue_record.specs.declared.record.Queue.{Queue}
@@ -29,6 +30,7 @@ use Rattle.cleanup_queue.proofs.Numbers.{questions-number}
 use Rattle.group_record.specs.Record.{placeAt, queueAt, freePlace, withPlace, withQueue, withOpened, emptyOf, sealing}
 use Rattle.group_record.specs.declared.record.Place.{Place}
 use Rattle.group_record.specs.declared.record.Groups.{Groups}
+use Rattle.group_asking.specs.Questions.{isYes, stuck, finishes}
 use Rattle.group_asking.specs.Scan.{someYes}
 use Rattle.group_asking.specs.declared.questions.Question.the-variants.{Holds, Live, Pending, Issued, Failed, Unfinished, Undrained}
 use Rattle.group_check.specs.WellFormed.{lastBase, wellGrouped}
@@ -37,7 +39,7 @@ use Rattle.group_check.specs.declared.ids.Spot.{Spot}
 use Rattle.group_check.specs.declared.ids.Got.{Got}
 use Rattle.group_check.specs.declared.ids.GetAnswer.{GetAnswer}
 use Rattle.group_check.proofs.Spots.{spot-means}
-use Rattle.group_questions.specs.ById.{toldBy, domainBy}
+use Rattle.group_questions.specs.ById.{toldBy, domainBy, acceptsIn}
 use Rattle.group_survey.specs.Whole.{retriesAll, roomFor, canRetryAllOf, canSealOf}
 use Rattle.group_openings.specs.Openings.{newOf, unsealed}
 use Rattle.group_openings.specs.declared.openings.Added.{Added}
@@ -56,14 +58,14 @@ use Rattle.group_rounds.specs.Rounds.{allRetried, retriedAll}
 use Rattle.group_rounds.specs.declared.rounds.RetryAllAnswer.{RetryAllAnswer}
 use Rattle.cleanup_groups.specs.Answers.{addedSays, closedSays, gotSays}
 use Rattle.cleanup_groups.specs.Orders.{stepOrder}
-use Rattle.cleanup_groups.specs.Promises.{LiveAt, idAt, IsLive, DrainedQueue, Sound}
+use Rattle.cleanup_groups.specs.Promises.{LiveAt, idAt, IsLive, DrainedQueue, Frame, Sound}
 use Rattle.cleanup_groups.specs.Runs.{GroupCall, groupsAfter, groupsAfterAll}
 use Rattle.cleanup_groups.proofs.ByCase.{by-spot, seal-by}
 use Rattle.cleanup_groups.proofs.Sounds.{sound-means}
 use Rattle.cleanup_groups.proofs.Keeps.{spot-live, by-round, call-whole, call-keeps, run-whole, run-keeps}
 use Rattle.cleanup_groups.proofs.Asked.{told-yes, yes-told, pending-means, means-pending, issued-means, means-issued, failed-means, means-failed}
 use Rattle.cleanup_groups.proofs.Asked.{retry-all-means, means-retry-all, finish-means, means-finish, seal-means, means-seal, contains-means, means-contains}
-use Rattle.cleanup_groups.proofs.Drains.{drained-means, means-drained, close-means, seal-drops, drained-seals}
+use Rattle.cleanup_groups.proofs.Drains.{yes-is, drained-means, means-drained, close-means, seal-drops, drained-seals}
 use Rattle.cleanup_groups.proofs.Numbers.{scope-number, iterator-number, get-number, close-number, seal-number}
 use Rattle.cleanup_groups.proofs.NumbersById.{register-number, land-number, pop-number, complete-number, retry-number, admit-number, admit-without-number}
 use Rattle.cleanup_groups.proofs.NumbersById.{end-number, cancel-number, told-number, domain-number, accepts-number, whole-number, len-number, retry-all-number, dead-next}
@@ -76,12 +78,12 @@ use Rattle.cleanup_groups.proofs.Live.{live-spot, register-as, land-as, pop-as,
 use Rattle.cleanup_groups.proofs.Others.{register-others, land-others, pop-others, complete-others, retry-others, admit-others, admit-without-others}
 use Rattle.cleanup_groups.proofs.Others.{end-others, cancel-others, close-others, scope-others, iterator-others}
 use Rattle.cleanup_groups.proofs.Room.{may-open, opened-may, empty-means, means-empty}
-use Rattle.cleanup_groups.proofs.Frames.{run-sealed}
+use Rattle.cleanup_groups.proofs.Frames.{round-frame, run-sealed}
 use Rattle.cleanup_groups.proofs.Rounds.{round-no, round-yes, round-renews, round-happens}
 use Rattle.cleanup_groups.proofs.Upstream.{round-at}
 use Rattle.history.specs.Benches.{BenchCall}
 use Rattle.demands.specs.CallTables.{saidBy, leftBy, toldTo, QueueQuestion, asksEmpty, asksIssued, asksPending, asksSettled, asksCancelled, asksFailed, asksRetry, asksFinish, asksDomain}
-use Rattle.demands.specs.CallTables.{saidOfGroups, groupsOrder, givenToGroups, GroupsNotRefusedWith0, GroupsRefusedAs, byId, isFor, toldById, RecordQuestion, recordTold, YesMeans}
+use Rattle.demands.specs.CallTables.{saidOfGroups, groupsOrder, givenToGroups, GroupsNotRefusedWith0, GroupsRefusedAs, byId, isFor, toldById, RecordQuestion, recordTold, Finishes, YesMeans}
 use Rattle.demands.specs.CallTables.{asksContains, asksNoneLive, asksSomePending, asksSomeIssued, asksSomeFailed, asksRetryAll, asksAllFinish, asksSeal, asksRoom}
 use Rattle.demands.specs.CallTables.{GroupQuestion, asksGroup, asksAccepts, asksQueue, asksRecord, asksLen, groupsTold, groupsAskedOrder, SixteenPlaces, LiveGroup}
 
@@ -285,8 +287,14 @@ module _ (g : Groups) (id : ℕ) (l : SixteenPlaces g) (w : wellGrouped g ≡ tr
   dead-close = close-number g id ∙ (miss _ (ap not w) ∙ hit _ (ap not unheld))
 
   pub no-such-group : ((c : BenchCall) → saidOfGroups g (byId id c) .number ≡ noGroup) × (saidOfGroups g (GroupCall.remove id) .number ≡ noGroup)
-      × ((a : QueueQuestion) → toldById g id a .number ≡ noGroup)
-  no-such-group = (dead-step, dead-close, λ a. by-id-number g id a ∙ dead-next g id brokenOnly w unheld)
+      × ((a : QueueQuestion) → toldById g id a .number ≡ noGroup) × (toldSays (acceptsIn g id) .number ≡ noGroup) × (gotSays (got g id .answer) .number ≡ noGroup)
+  no-such-group = (
+    dead-step,
+    dead-close,
+    λ a. by-id-number g id a ∙ dead-next g id brokenOnly w unheld,
+    accepts-number g id ∙ dead-next g id brokenOnly w unheld,
+    get-number g id ∙ (miss _ (ap not w) ∙ hit _ (ap not unheld)),
+  )
 
 -- ---- the groups that a call is not for
 module _ (g : Groups) (l : SixteenPlaces g) where
@@ -335,6 +343,11 @@ module _ (g : Groups) (l : SixteenPlaces g) where
   pub seals-exactly : (sealedIn g .answer ≡ Closed.Done) ↔ ((wellGrouped g ≡ true) × (g .sealed ≡ false) × ((i : ℕ) → i < 16 → LiveAt g i → DrainedQueue (queueAt g i)))
   seals-exactly = (λ h. (sealed-was h .0, sealed-was h .1, seal-drops g l h .0), λ d. drained-seals g l (d .0) (d .1) (d .2))
 
+  -- the whole record that sealing leaves
+  pub seal-leaves : sealedIn g .answer ≡ Closed.Done → sealedIn g .groups ≡ record { base = g .base; next = g .next; sealed = true; places = replicate 16 freePlace }
+  unfolding sealing
+  seal-leaves h = seal-drops g l h .1
+
   pub sealed-for-good : sealedIn g .answer ≡ Closed.Done → (cs : List GroupCall) (id : ℕ) → IsLive (groupsAfterAll (sealedIn g .groups) cs) id → ⊥
   unfolding sealing
   sealed-for-good h cs id v =
@@ -345,6 +358,9 @@ module _ (g : Groups) (l : SixteenPlaces g) where
       clash (v .2) (o .sealed (run-sealed (sealedIn g .groups) cs s) (v .0) (v .1))
 
 -- ---- a round of retries
+same-frame : (g : Groups) → Frame g g
+same-frame g = record { base = refl; next = refl; sealed = refl; marks = λ i. refl; ids = λ i. refl }
+
 pub round-exactly : (g : Groups) → (retriedAll g .answer ≡ Yes) ↔ (canRetryAllOf g ≡ Yes)
 round-exactly g = (λ h. let y = round-yes g h in yes-told g (retriesAll g) (y .0) (y .1), λ h. let y = told-yes g (retriesAll g) h in round-happens g (y .0) (y .1))
 
@@ -354,6 +370,13 @@ round-retries g i p h f =
     let y = round-yes g h in
     (ap (λ (r : Groups). queueAt r i) (y .2) ∙ round-at g i (p .live) f, round-renews g (p .places) (y .1) i (p .inside) (p .live) f)
 
+-- any answer: the groups that there are stay
+pub round-stays : (g : Groups) → Frame g (retriedAll g .groups)
+unfolding retriedAll
+round-stays g =
+    if-by (λ (r : RetryAllAnswer). Frame g (r .groups)) (not (wellGrouped g)) _ _ (λ _. same-frame g)
+    (λ _. if-by (λ (r : RetryAllAnswer). Frame g (r .groups)) (not (retriesAll g)) _ _ (λ _. same-frame g) (λ _. round-frame g))
+
 pub round-keeps-place : (g : Groups) (i : ℕ) → queueAt g i .failed ≡ false → placeAt (retriedAll g .groups) i ≡ placeAt g i
 unfolding retriedAll
 round-keeps-place g i n =
@@ -362,6 +385,36 @@ round-keeps-place g i n =
     (λ _. by-round (λ (p : Place). p ≡ placeAt g i) g i (λ _ f. clash f n) (λ _. refl)))
 
 -- ---- what a yes means
+module _ (q : Queue) where
+  may-retry : not (stuck q) ≡ true → q .failed ≡ true → canRetryTold q ≡ Yes
+  may-retry h f = yes-is (canRetryTold q) (not-false _ (sym (pass _ f) ∙ not-true _ h))
+
+  retry-may : (q .failed ≡ true → canRetryTold q ≡ Yes) → not (stuck q) ≡ true
+  retry-may h = go (q .failed) refl
+    where
+      go : (b : Bool) → q .failed ≡ b → not (stuck q) ≡ true
+      go true f = ap not (pass _ f ∙ ap (λ (t : Told). not (isYes t)) (h f))
+      go false f = ap not (stop _ f)
+
+module _ (g : Groups) (target : List ℕ) (i : ℕ) where
+  abbrev last-asked : Bool
+  last-asked = eqb (idAt g i) 0 || isYes (canFinishTold (queueAt g i) target)
+
+  may-finish : finishes (idAt g i) (queueAt g i) target ≡ true → Finishes g target i
+  may-finish h =
+      let r : (not (queueAt g i .failed) && last-asked) ≡ true = and-right (not (isPending (queueAt g i .phase))) _ h in (
+        not-true _ (and-left (not (isPending (queueAt g i .phase))) _ h),
+        not-true _ (and-left (not (queueAt g i .failed)) _ r),
+        λ n. yes-is _ (sym (other _ (ne-eqb (idAt g i) 0 n)) ∙ and-right (not (queueAt g i .failed)) last-asked r),
+      )
+
+  finish-may : Finishes g target i → finishes (idAt g i) (queueAt g i) target ≡ true
+  finish-may f = pass _ (ap not (f .0)) ∙ (pass _ (ap not (f .1)) ∙ go (eqb (idAt g i) 0) refl)
+    where
+      go : (b : Bool) → eqb (idAt g i) 0 ≡ b → last-asked ≡ true
+      go true e = either _ e
+      go false e = other _ e ∙ ap isYes (f .2 (eqb-false (idAt g i) 0 e))
+
 module _ (g : Groups) (l : SixteenPlaces g) where
   abbrev Meaning : RecordQuestion → Type 0
   Meaning a = (recordTold g a ≡ Yes) ↔ ((wellGrouped g ≡ true) × YesMeans g a)
@@ -380,7 +433,13 @@ module _ (g : Groups) (l : SixteenPlaces g) where
   yes-means asksSomePending = (λ h. (told-yes g (someYes g Pending []) h .0, pending-means g l h), λ m. means-pending g l (m .0) (m .1))
   yes-means asksSomeIssued = (λ h. (told-yes g (someYes g Issued []) h .0, issued-means g l h), λ m. means-issued g l (m .0) (m .1))
   yes-means asksSomeFailed = (λ h. (told-yes g (someYes g Failed []) h .0, failed-means g l h), λ m. means-failed g l (m .0) (m .1))
-  yes-means asksRetryAll = (λ h. (told-yes g (retriesAll g) h .0, retry-all-means g l h), λ m. means-retry-all g l (m .0) (m .1 .0) (m .1 .1))
-  yes-means (asksAllFinish target) = (λ h. (told-yes g (not (someYes g Unfinished target)) h .0, finish-means g l target h), λ m. means-finish g l target (m .0) (m .1))
+  yes-means asksRetryAll = (
+    λ h. let r = retry-all-means g l h in (told-yes g (retriesAll g) h .0, (r .0, λ i k a. may-retry (queueAt g i) (r .1 i k a))),
+    λ m. means-retry-all g l (m .0) (m .1 .0) (λ i k a. retry-may (queueAt g i) (m .1 .1 i k a)),
+  )
+  yes-means (asksAllFinish target) = (
+    λ h. (told-yes g (not (someYes g Unfinished target)) h .0, λ i k a. may-finish g target i (finish-means g l target h i k a)),
+    λ m. means-finish g l target (m .0) (λ i k a. finish-may g target i (m .1 i k a)),
+  )
   yes-means asksSeal = (seal-yes, λ m. yes-seal (m .0) (m .1))
   yes-means asksRoom = (λ h. (told-yes g (roomFor g) h .0, may-open g h), λ m. opened-may g (g .next) (m .1))

@@ -1,2 +1,4 @@
+pub mod QuestionTheorems
 pub mod GroupTheorems
+pub mod RoundHappens
 pub mod Theorems

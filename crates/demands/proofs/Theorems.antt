@@ -1,23 +1,35 @@
 -- The three demands hold, and the library's: each field by the law that says it
-use Prim.Native.Nat.{ℕ}
-use mathlib.Core.Path.{_≡_, refl}
+use Prim.Native.Nat.{ℕ, _<_}
+use mathlib.Core.Path.{_≡_, refl, ap, _∙_}
+use mathlib.Core.Logic.{_↔_}
 use mathlib.Core.Bool.{false}
 use mathlib.Core.List.{List, []}
+use native.Mathlib.Omega.{arith}
 use lib.ListN.{length}
 use Rattle.queue_record.specs.Refusals.{done}
-use Rattle.queue_record.specs.Openings.{openedAs}
+use Rattle.queue_record.specs.Blank.{isBlank}
+use Rattle.queue_record.specs.Openings.{blank, scopeOf, openedAs}
 use Rattle.queue_record.specs.declared.record.Queue.{Queue}
 use Rattle.queue_record.proofs.Opened.{opened-well-formed}
-use Rattle.queue_questions.specs.Questions.{matches}
-use Rattle.cleanup_queue.specs.Orders.{firstDue, RefusedAs, brokenOnly}
+use Rattle.queue_record.proofs.BlankOnly.{blank-passes, blank-only}
+use Rattle.stage.proofs.Sets.{same-means, means-same}
+use Rattle.queue_questions.specs.Questions.{committed, matches}
+use Rattle.cleanup_queue.specs.Orders.{firstDue, firstSaid, RefusedAs, brokenOnly}
 use Rattle.cleanup_queue.proofs.Numbers.{opening-number, register-number, land-number, pop-number, complete-number, retry-number, questions-number}
 use Rattle.cleanup_queue.proofs.Numbers.{admit-number, end-number, cancel-number, domain-number}
 use Rattle.cleanup_queue.proofs.Said.{opening-refused, register-refused, land-refused, pop-refused, complete-refused, retry-refused, admit-refused}
 use Rattle.cleanup_queue.proofs.Said.{end-refused, cancel-refused, opening-no-zero, register-no-zero, land-no-zero, pop-no-zero, complete-no-zero}
 use Rattle.cleanup_queue.proofs.Said.{retry-no-zero, admit-no-zero, end-no-zero, cancel-no-zero}
-use Rattle.cleanup_queue.proofs.HandsOut.{pop-exactly, pop-hands}
-use Rattle.cleanup_queue.proofs.Upstream.{waiting-rises}
-use Rattle.cleanup_queue.proofs.Waits.{register-appends, land-appends, fresh-pop-drops}
+use Rattle.cleanup_queue.proofs.Said.{register-said, land-said, pop-said, complete-said, retry-said, admit-said, end-said, cancel-said}
+use Rattle.cleanup_queue.proofs.HandsOut.{pop-exactly, pop-hands, pop-never-hollow}
+use Rattle.cleanup_queue.proofs.Upstream.{waiting-rises, waits-exactly, call-keeps-opening, register-leaves, land-leaves, register-pushes, land-pushes, land-moves}
+use Rattle.cleanup_queue.proofs.Upstream.{pop-empties, pop-leaves, pop-next, pop-issues, complete-leaves, complete-takes-back, told-retries, retries-told}
+use Rattle.cleanup_queue.proofs.Upstream.{admit-leaves, end-leaves, cancel-leaves, admit-moves, end-moves, cancel-moves}
+use Rattle.cleanup_queue.proofs.Precisely.{settles-exactly, retry-leaves-whole, retries-exactly, empty-exactly}
+use Rattle.cleanup_queue.proofs.SoundFits.{well-formed-means}
+use Rattle.cleanup_queue.proofs.Cases.{marked-cases}
+use Rattle.cleanup_queue.proofs.Waits.{register-appends, land-appends, fresh-pop-drops, ready-pop-keeps, idle-pop-keeps, complete-keeps-waiting, retry-keeps-waiting}
+use Rattle.cleanup_queue.proofs.Waits.{admit-keeps-waiting, end-keeps-waiting, cancel-keeps-waiting}
 use Rattle.cleanup_queue.proofs.Finish.{finish-means, means-finish, finish-with-bindings}
 use Rattle.cleanup_queue.proofs.Keeps.{run-keeps}
 use Rattle.cleanup_queue.proofs.Exactly.{opened-parts, attempts-exactly, tokens-exactly}
@@ -30,13 +42,18 @@ use Rattle.cleanup_log.proofs.RecordedApart.{register-recorded-apart, land-reco
 use Rattle.cleanup_log.proofs.RecordedApart.{retry-recorded-apart, admit-recorded-apart, end-recorded-apart, cancel-recorded-apart}
 use Rattle.cleanup_log.proofs.RecordedNumbers.{admit-recorded-number, end-recorded-number, cancel-recorded-number}
 use Rattle.cleanup_log.proofs.RecordedNumbers.{register-recorded-returns, land-recorded-returns, complete-recorded-returns}
+use Rattle.group_record.specs.Record.{placeAt}
+use Rattle.group_record.specs.declared.record.Groups.{Groups}
+use Rattle.group_check.specs.Count.{liveCount}
 use Rattle.group_openings.specs.Openings.{newOf}
 use Rattle.cleanup_groups.specs.Promises.{idAt}
 use Rattle.cleanup_groups.proofs.Numbers.{new-number}
+use Rattle.cleanup_groups.proofs.Counts.{count-none, none-count, scope-counts, iterator-counts, close-counts}
 use Rattle.cleanup_groups.proofs.Sounds.{sound-means, means-sound}
 use Rattle.cleanup_groups.proofs.Keeps as groups
 use Rattle.cleanup_groups.proofs.Live.{accepts-as}
 use Rattle.cleanup_groups.proofs.Ids.{gone-stays, closed-for-good, domains-differ}
+use Rattle.cleanup_groups.proofs.Room.{scope-opens-exactly, iterator-opens-exactly}
 use Rattle.cleanup_groups.proofs.Rounds.{round-no}
 use Rattle.cleanup_groups.proofs.Upstream.{scope-as, iterator-as}
 use Rattle.cleanup_groups.proofs.Says.{len-says, new-numbered, get-numbered}
@@ -51,12 +68,14 @@ use Rattle.history.proofs.WordLogs.{word-logs}
 use Rattle.library_laws.proofs.Sounds.{scope-sound, iterator-sound}
 use Rattle.library_laws.proofs.Sessions.{session-sound, read-back-same}
 use Rattle.library_laws.proofs.NeverOne.{never-one, never-one-asked}
-use Rattle.demands.specs.CallTables.{saidBy, orderOf, givenTo, NotRefusedWith0, RecordedNotRefusedWith0, leftBy, QueueQuestion, asksEmpty, asksIssued, asksPending, asksSettled}
-use Rattle.demands.specs.CallTables.{asksCancelled, asksFailed, asksRetry, asksFinish, asksDomain, toldTo}
+use Rattle.demands.specs.CallTables.{saidBy, orderOf, givenTo, NotRefusedWith0, RecordedNotRefusedWith0, leftBy, ownValues, QueueQuestion, asksEmpty, asksIssued, asksPending, asksSettled}
+use Rattle.demands.specs.CallTables.{asksCancelled, asksFailed, asksRetry, asksFinish, asksDomain, toldTo, SixteenPlaces}
 use Rattle.demands.specs.Demands.{Demand1, Demand2, Demand3, LibraryDemand}
+use Rattle.demands.proofs.QuestionTheorems.{asks-say, asked-valued, asked-valued-by-id, accepts-valued, record-valued, len-tells}
 use Rattle.demands.proofs.GroupTheorems.{one-number-groups, one-number-groups-asked, groups-not-refused-with-0, groups-unchanged, empty-new, blank-get, new-has-root}
 use Rattle.demands.proofs.GroupTheorems.{group-as-queue, asked-as-queue, get-gives, no-such-group, other-groups-stay, closes-exactly, close-frees}
-use Rattle.demands.proofs.GroupTheorems.{seals-exactly, sealed-for-good, round-exactly, round-retries, round-keeps-place, yes-means}
+use Rattle.demands.proofs.RoundHappens.{round-said-yes}
+use Rattle.demands.proofs.GroupTheorems.{seals-exactly, seal-leaves, round-stays, sealed-for-good, round-exactly, round-retries, round-keeps-place, yes-means}
 
 one-number : (q : Queue) (c : BenchCall) → saidBy q c .number ≡ firstDue (orderOf q c)
 one-number q (BenchCall.register n) = register-number q n
@@ -125,6 +144,24 @@ nothing-changed q BenchCall.admitWithout = admit-refused q false
 nothing-changed q BenchCall.end = end-refused q
 nothing-changed q BenchCall.cancel = cancel-refused q
 
+calls-say : (q : Queue) (c : BenchCall) → saidBy q c ≡ firstSaid (orderOf q c) (givenTo c) (ownValues q c)
+calls-say q (BenchCall.register n) = register-said q n
+calls-say q (BenchCall.land n) = land-said q n
+calls-say q BenchCall.pop = pop-said q
+calls-say q (BenchCall.complete t o k) = complete-said q t o k
+calls-say q BenchCall.retry = retry-said q
+calls-say q (BenchCall.admit target) = admit-said q (matches q target)
+calls-say q BenchCall.admitWithout = admit-said q false
+calls-say q BenchCall.end = end-said q
+calls-say q BenchCall.cancel = cancel-said q
+
+blank-is : blank ≡ scopeOf 0 0
+unfolding blank
+blank-is = refl
+
+counts-none : (g : Groups) → SixteenPlaces g → (liveCount (g .places) ≡ 0) ↔ ((i : ℕ) → i < 16 → placeAt g i .live ≡ false)
+counts-none g l = (λ h i k. count-none (g .places) h i (omega arith), λ f. none-count (g .places) (λ i k. f i (omega arith)))
+
 pub demand1 : Demand1
 demand1 = record {
   oneNumber = one-number;
@@ -133,6 +170,8 @@ demand1 = record {
   oneNumberRecorded = one-number-recorded;
   refusalIsNot0 = (not-refused-with-0, opening-no-zero);
   recordedRefusalIsNot0 = recorded-not-refused-with-0;
+  askedRefusalIsNot0 = (asked-valued, asked-valued-by-id, accepts-valued, record-valued, len-tells);
+  neverHollow = pop-never-hollow;
   nothingChanged = nothing-changed;
   blankOpening = opening-refused;
   nothingChangedRecorded = λ b c. refused-stays b (callOn (b .queue) c);
@@ -148,15 +187,41 @@ demand1 = record {
 
 pub demand2 : Demand2
 demand2 = record {
+  wellFormedMeans = well-formed-means;
+  openingStays = call-keeps-opening;
+  birthStores = λ q z n. (register-pushes q n z, land-pushes q n z);
+  birthLeaves = λ q n. (register-leaves q n .0, register-leaves q n .1, land-leaves q n);
+  landMoves = λ q n token h. let m = land-moves q n token h in (m .0, m .3);
+  popLeaves = λ q t number h. (pop-empties q t number h .0, pop-issues q t number h .1, pop-issues q t number h .0, pop-next q t number h);
+  popStays = pop-leaves;
+  popNothing = idle-pop-keeps;
+  settlesExactly = settles-exactly;
+  completeLeaves = λ q t o k h. let l = complete-leaves q t o k in (complete-takes-back q t o k h, l .0, l .1);
+  retriesExactly = retries-exactly;
+  retryLeaves = retry-leaves-whole;
+  stageTable = (refl, refl, refl, refl, refl);
+  stageLeaves = λ q m. (admit-leaves q m, end-leaves q, cancel-leaves q);
+  stageMoves = λ q m w. (admit-moves q m w, end-moves q w, cancel-moves q w);
+  matchMeans = λ q target. (same-means target (committed q), means-same target (committed q));
+  callsSay = calls-say;
+  asksSay = asks-say;
+  emptyMeans = empty-exactly;
+  canRetryMeans = λ q. (told-retries q, λ r. retries-told q (r .0) (r .1));
+  markedCases = marked-cases;
   handsOutExactly = pop-exactly;
   handsOutThis = pop-hands;
+  waitsExactly = waits-exactly;
   waitingRises = waiting-rises;
   birthWaitsLast = λ q z n. (register-appends q n z, land-appends q n z);
   popTakesLast = fresh-pop-drops;
+  readyKeepsWaiting = ready-pop-keeps;
+  othersKeepWaiting = λ q. (complete-keeps-waiting q, retry-keeps-waiting q, admit-keeps-waiting q, end-keeps-waiting q, cancel-keeps-waiting q);
   finishMeans = λ q target. (finish-means q target, means-finish q target);
   finishHappens = finish-with-bindings;
   openedAsGiven = opened-parts;
+  blankMeans = (blank-is, λ q z. (blank-only q z, λ e. ap isBlank e ∙ blank-passes));
   staysSound = λ o cs. run-keeps (openedAs o .queue) cs (opened-well-formed o);
+  soundQueueStays = run-keeps;
   attemptsExactly = attempts-exactly;
   tokensExactly = tokens-exactly;
   groupAsQueue = group-as-queue;
@@ -168,6 +233,8 @@ demand2 = record {
   checkMeansSound = λ g l. (sound-means g l, means-sound g l);
   newHasRoot = new-has-root;
   groupsStaySound = λ base cs. let l = groups.new-whole base in (groups.run-keeps (newOf base .groups) cs l (groups.new-keeps base), groups.run-whole (newOf base .groups) cs l);
+  soundGroupsStay = λ g cs l w. (groups.run-keeps g cs l w, groups.run-whole g cs l);
+  opensExactly = λ g l. (scope-opens-exactly g l, iterator-opens-exactly g l);
   openedGroup = λ g l n. (scope-as g l n, λ bindings h. iterator-as g l n bindings h .1);
   goneForGood = gone-stays;
   closedForGood = closed-for-good;
@@ -175,13 +242,17 @@ demand2 = record {
   closesExactly = λ g id l. closes-exactly g l id;
   closeFrees = λ g i p. close-frees g (p .places) i p;
   sealsExactly = seals-exactly;
+  sealLeaves = seal-leaves;
   sealedForGood = sealed-for-good;
   roundExactly = round-exactly;
   roundElseNothing = round-no;
   roundRetries = round-retries;
   roundKeeps = round-keeps-place;
+  roundFrame = round-stays;
+  roundHappens = round-said-yes;
   yesMeans = yes-means;
   lenTells = len-says;
+  lenCounts = λ g l. (counts-none g l, scope-counts g l, λ bindings n. iterator-counts g l n bindings, close-counts g l);
 }
 
 pub demand3 : Demand3

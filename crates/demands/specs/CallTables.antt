@@ -1,29 +1,32 @@
 -- The public calls of queue and groups, a line each: what a call says, in which order it refuses, what it was given, what it leaves
 use Prim.Native.Nat.{ℕ, _<_}
 use mathlib.Core.Path.{_≡_}
-use mathlib.Core.Bool.{Bool, true, false, not}
+use mathlib.Core.Bool.{Bool, true, false}
 use mathlib.Core.List.{List, [], _∷_}
 use lib.Dec.{eqb}
 use lib.ListN.{length}
-use Rattle.stage.specs.Phases.{isPending}
+use Rattle.choice.specs.Choice.{bit}
+use Rattle.stage.specs.Phases.{phaseAfter, isPending, isSettled, isCancelled, phaseNumber}
+use Rattle.stage.specs.declared.phases.Phase.{Phase}
+use Rattle.stage.specs.declared.phases.Event.{Event}
 use Rattle.queue_record.specs.Refusals.{done}
+use Rattle.queue_record.specs.Waiting.{waiting}
 use Rattle.queue_record.specs.declared.record.Queue.{Queue}
 use Rattle.queue_births.specs.Births.{registered, landed}
-use Rattle.queue_steps.specs.Attempts.{popped, completed, retried}
+use Rattle.queue_steps.specs.Attempts.{popped, completed, retryAllowed, retried}
 use Rattle.queue_births.specs.declared.births.Registered.{Registered}
 use Rattle.queue_steps.specs.declared.attempts.Popped.{Popped}
 use Rattle.queue_steps.specs.declared.attempts.Completed.{Completed}
 use Rattle.queue_steps.specs.declared.attempts.Retried.{Retried}
 use Rattle.queue_stages.specs.Stages.{admitted, ended, cancelledBy}
 use Rattle.queue_stages.specs.declared.stages.Cancelled.{Cancelled}
-use Rattle.queue_questions.specs.Questions.{matches, isEmptyTold, isIssuedTold, isPendingTold, isSettledTold, isCancelledTold, hasFailedTold, canRetryTold, canFinishTold, domainTold}
+use Rattle.queue_questions.specs.Questions.{nothingLeft, finishable, committed, matches, isEmptyTold, isIssuedTold, isPendingTold, isSettledTold, isCancelledTold, hasFailedTold, canRetryTold, canFinishTold, domainTold}
 use Rattle.queue_questions.specs.declared.questions.Told.{Told}
 use Rattle.cleanup_queue.specs.Answers.{Said, registeredSays, poppedSays, completedSays, retriedSays, toldSays, cancelledSays, domainSays}
-use Rattle.cleanup_queue.specs.Orders.{Ground, registerOrder, landOrder, popOrder, completeOrder, retryOrder, brokenOnly}
+use Rattle.cleanup_queue.specs.Orders.{Ground, registerOrder, landOrder, popOrder, workValues, completeOrder, retryOrder, renewedValues, brokenOnly}
 use Rattle.cleanup_queue.specs.Runs.{after}
 use Rattle.group_record.specs.Record.{placeAt, queueAt}
 use Rattle.group_record.specs.declared.record.Groups.{Groups}
-use Rattle.group_asking.specs.Questions.{stuck, finishes}
 use Rattle.group_check.specs.WellFormed.{wellGrouped}
 use Rattle.group_check.specs.Ids.{got}
 use Rattle.group_questions.specs.ById.{isEmptyIn, isIssuedIn, isPendingIn, isSettledIn, isCancelledIn, hasFailedIn, canRetryIn, canFinishIn, domainIn, acceptsIn}
@@ -38,7 +41,7 @@ use Rattle.group_stages.specs.Stages.{admittedIn, admittedInWithout, endedIn, c
 use Rattle.group_rounds.specs.Rounds.{retriedAll}
 use Rattle.cleanup_groups.specs.Answers.{addedSays, closedSays, lenSays, gotSays}
 use Rattle.cleanup_groups.specs.Orders.{openOrder, idOrder, stepOrder, recordOrder, closeOrder, sealOrder}
-use Rattle.cleanup_groups.specs.Promises.{LiveAt, IsLive, SomeLive, EveryLive, DrainedQueue}
+use Rattle.cleanup_groups.specs.Promises.{LiveAt, idAt, IsLive, SomeLive, DrainedQueue}
 use Rattle.cleanup_groups.specs.Runs.{GroupCall}
 use Rattle.log_births.specs.Births.{registerRecorded, landRecorded}
 use Rattle.log_attempts.specs.Attempts.{popRecorded, completeRecorded, retryRecorded}
@@ -107,6 +110,22 @@ RecordedNotRefusedWith0 q log used BenchCall.cancel = cancelRecorded q log used 
 abbrev pub leftBy : Queue → BenchCall → Queue
 leftBy q c = after q (callOn q c)
 
+-- the values that it says where it is done: a token; the ticket and the undo number handed out; the ticket renewed; yes as 1 and no as 0
+abbrev pub ownValues : Queue → BenchCall → List ℕ
+ownValues q (BenchCall.register n) = q .count ∷ []
+ownValues q (BenchCall.land n) = q .count ∷ []
+ownValues q BenchCall.pop = workValues q (q .issued) (q .failed) (q .selection)
+ownValues q (BenchCall.complete t outcome kept) = []
+ownValues q BenchCall.retry = renewedValues q (q .selection)
+ownValues q (BenchCall.admit target) = bit (isPending (leftBy q (BenchCall.admit target) .phase)) ∷ []
+ownValues q BenchCall.admitWithout = bit (isPending (leftBy q BenchCall.admitWithout .phase)) ∷ []
+ownValues q BenchCall.end = bit (isPending (q .phase)) ∷ []
+ownValues q BenchCall.cancel = []
+
+-- ---- the table of the phases: those after admit, land, end and cancel by their numbers, and whether it is pending, settled, cancelled
+abbrev pub phaseLine : Phase → List ℕ
+phaseLine p = phaseNumber (phaseAfter p Event.Admit) ∷ phaseNumber (phaseAfter p Event.Land) ∷ phaseNumber (phaseAfter p Event.End) ∷ phaseNumber (phaseAfter p Event.Cancel) ∷ bit (isPending p) ∷ bit (isSettled p) ∷ bit (isCancelled p) ∷ []
+
 -- ---- the calls that only ask
 pub data QueueQuestion : Type 0 where
   asksEmpty : QueueQuestion
@@ -129,6 +148,18 @@ toldTo q asksFailed = toldSays (hasFailedTold q)
 toldTo q asksRetry = toldSays (canRetryTold q)
 toldTo q (asksFinish target) = toldSays (canFinishTold q target)
 toldTo q asksDomain = domainSays (domainTold q)
+
+-- the value that it tells of a well-formed queue: 1 for yes and 0 for no, or the domain
+abbrev pub meantBy : Queue → QueueQuestion → ℕ
+meantBy q asksEmpty = bit (nothingLeft (q .selection) (waiting q))
+meantBy q asksIssued = bit (q .issued)
+meantBy q asksPending = bit (isPending (q .phase))
+meantBy q asksSettled = bit (isSettled (q .phase))
+meantBy q asksCancelled = bit (isCancelled (q .phase))
+meantBy q asksFailed = bit (q .failed)
+meantBy q asksRetry = bit (retryAllowed q (q .selection))
+meantBy q (asksFinish target) = bit (finishable (q .selection) (q .phase) target (committed q))
+meantBy q asksDomain = q .domain
 
 -- ---- the calls of the groups that may change their record: what one says, in which order it refuses, what it was given
 abbrev pub saidOfGroups : Groups → GroupCall → Said
@@ -266,6 +297,10 @@ recordTold g (asksAllFinish target) = canFinishOf g target
 recordTold g asksSeal = canSealOf g
 recordTold g asksRoom = canAddOf g
 
+-- can_finish asks this of the live place i: neither pending nor failed, and of every id but 0 the queue's own can_finish
+abbrev pub Finishes : Groups → List ℕ → ℕ → Type 0
+Finishes g target i = (isPending (queueAt g i .phase) ≡ false) × (queueAt g i .failed ≡ false) × ((idAt g i ≡ 0 → ⊥) → canFinishTold (queueAt g i) target ≡ Told.Yes)
+
 -- what a yes to it means
 abbrev pub YesMeans : Groups → RecordQuestion → Type 0
 YesMeans g (asksContains id) = IsLive g id
@@ -273,8 +308,8 @@ YesMeans g asksNoneLive = (i : ℕ) → i < 16 → placeAt g i .live ≡ false
 YesMeans g asksSomePending = SomeLive g (λ id q. isPending (q .phase))
 YesMeans g asksSomeIssued = SomeLive g (λ id q. q .issued)
 YesMeans g asksSomeFailed = SomeLive g (λ id q. q .failed)
-YesMeans g asksRetryAll = SomeLive g (λ id q. q .failed) × EveryLive g (λ id q. not (stuck q))
-YesMeans g (asksAllFinish target) = EveryLive g (λ id q. finishes id q target)
+YesMeans g asksRetryAll = SomeLive g (λ id q. q .failed) × ((i : ℕ) → i < 16 → LiveAt g i → queueAt g i .failed ≡ true → canRetryTold (queueAt g i) ≡ Told.Yes)
+YesMeans g (asksAllFinish target) = (i : ℕ) → i < 16 → LiveAt g i → Finishes g target i
 YesMeans g asksSeal = (i : ℕ) → i < 16 → LiveAt g i → DrainedQueue (queueAt g i)
 YesMeans g asksRoom = addedScope g .answer ≡ Added.Id (g .next)
 

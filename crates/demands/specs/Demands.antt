@@ -2,31 +2,41 @@
 use Prim.Native.Nat.{ℕ, _+_, _<_, _≤_}
 use mathlib.Core.Path.{_≡_}
 use mathlib.Core.Logic.{_↔_}
-use mathlib.Core.Bool.{true, false, not}
+use mathlib.Core.Bool.{Bool, true, false, not}
 use mathlib.Core.List.{List, [], _∷_}
-use lib.ListN.{length, take}
+use lib.ListN.{length, take, set, replicate}
 use Rattle.queue_record.specs.Record.{Sized}
-use Rattle.stage.specs.Phases.{isCancelled}
-use Rattle.queue_record.specs.Refusals.{done, broken, noGroup, badLog}
+use Rattle.choice.specs.Choice.{if_then_else_}
+use Rattle.stage.specs.Bindings.{member, SameMembers}
+use Rattle.stage.specs.Phases.{phaseAfter, isPending, isCancelled}
+use Rattle.stage.specs.declared.phases.Phase.{Phase}
+use Rattle.stage.specs.declared.phases.Event.{Event}
+use Rattle.queue_record.specs.Refusals.{done, broken, hollow, noGroup, badLog}
 use Rattle.queue_record.specs.WellFormed.{wellFormed}
+use Rattle.queue_record.specs.Blank.{isBlank}
 use Rattle.queue_record.specs.Waiting.{waiting}
 use Rattle.queue_record.specs.Openings.{Opening, blank, scopeOf, iteratorOf, openedAs}
 use Rattle.queue_record.specs.declared.record.Ticket.{Ticket}
+use Rattle.queue_record.specs.declared.record.Selection.the-variants.{Free, Of}
 use Rattle.queue_record.specs.declared.record.Queue.{Queue}
 use Rattle.queue_record.specs.declared.openings.Opened.{Opened}
 use Rattle.queue_decisions.specs.Slots.{noMore}
 use Rattle.queue_births.specs.Births.{registered, landed}
-use Rattle.queue_steps.specs.Attempts.{popped, retried}
+use Rattle.queue_steps.specs.Attempts.{slot, popped, completed, retried}
 use Rattle.queue_births.specs.declared.births.Registered.{Registered}
+use Rattle.queue_steps.specs.declared.attempts.Popped.{Popped}
 use Rattle.queue_steps.specs.declared.attempts.Popped.the-variants.{Work}
 use Rattle.queue_steps.specs.declared.attempts.Completed.{Completed}
 use Rattle.queue_steps.specs.declared.attempts.Retried.{Retried}
-use Rattle.queue_questions.specs.Questions.{yesOrNo, canFinishTold}
+use Rattle.queue_stages.specs.Stages.{admitted, ended, cancelledBy}
+use Rattle.queue_questions.specs.Questions.{yesOrNo, committed, matches, isEmptyTold, canRetryTold, canFinishTold}
 use Rattle.queue_questions.specs.declared.questions.Told.the-variants.{Yes}
-use Rattle.cleanup_queue.specs.Answers.{says, openedSays}
-use Rattle.cleanup_queue.specs.Orders.{firstDue, RefusedAs, openingOrder, brokenOnly}
-use Rattle.cleanup_queue.specs.Parts.{OpenedParts, Appends, Drops}
+use Rattle.cleanup_queue.specs.Answers.{says, openedSays, toldSays}
+use Rattle.cleanup_queue.specs.Marked.{table, definitionSays, paperSays}
+use Rattle.cleanup_queue.specs.Orders.{firstDue, firstSaid, RefusedAs, openingOrder, brokenOnly}
+use Rattle.cleanup_queue.specs.Parts.{OpenedParts, SameOpening, LeavesSelected, Pushes, Appends, Drops, TakesNext, TakesBack, RenewsTo, StaysButPhase}
 use Rattle.cleanup_queue.specs.Promises.{handsOut, mayHandOut, HandedOut, Finishable}
+use Rattle.cleanup_queue.specs.SoundQueues.{SoundQueue}
 use Rattle.cleanup_queue.specs.Runs.{Call, after, afterAll, attempts, tokens, Rising, Counts}
 use Rattle.group_record.specs.Record.{placeAt, queueAt, freePlace, withPlace, withQueue, withOpened, emptyOf}
 use Rattle.group_record.specs.declared.record.Groups.{Groups}
@@ -43,7 +53,7 @@ use Rattle.group_endings.specs.declared.endings.Closed.{Closed}
 use Rattle.group_rounds.specs.Rounds.{retriedAll}
 use Rattle.cleanup_groups.specs.Answers.{lenSays, gotSays}
 use Rattle.cleanup_groups.specs.Orders.{newOrder}
-use Rattle.cleanup_groups.specs.Promises.{LiveAt, idAt, IsLive, DrainedQueue, AddedAs, Sound}
+use Rattle.cleanup_groups.specs.Promises.{LiveAt, idAt, IsLive, DrainedQueue, RoomToOpen, AddedAs, Frame, Sound}
 use Rattle.cleanup_groups.specs.Runs.{GroupCall, groupsAfter, groupsAfterAll}
 use Rattle.log_rows.specs.Rows.{rows, flat, written}
 use Rattle.log_rows.specs.Appending.{rowsFit, hasRoom}
@@ -65,7 +75,7 @@ use Rattle.queue_words.specs.Exported.{Exported}
 use Rattle.gulberzan_c.specs.ReadBack.{ReadOn}
 use Rattle.library_laws.specs.Sessions.{Session, LibraryCall, sessionAfter, sessionAfterAll, openingBy, Recorder, usedWords}
 use Rattle.library_laws.specs.Results.{WordQuestion, askedOn, Returned, IsOne}
-use Rattle.demands.specs.CallTables.{saidBy, orderOf, givenTo, NotRefusedWith0, RecordedNotRefusedWith0, leftBy, QueueQuestion, toldTo}
+use Rattle.demands.specs.CallTables.{saidBy, orderOf, givenTo, NotRefusedWith0, RecordedNotRefusedWith0, leftBy, ownValues, phaseLine, QueueQuestion, toldTo, meantBy}
 use Rattle.demands.specs.CallTables.{saidOfGroups, groupsOrder, givenToGroups, GroupsNotRefusedWith0, GroupsRefusedAs, byId, isFor, toldById}
 use Rattle.demands.specs.CallTables.{RecordQuestion, recordTold, YesMeans, GroupQuestion, groupsTold, groupsAskedOrder, SixteenPlaces}
 use Rattle.demands.specs.CallTables.{LiveGroup}
@@ -81,6 +91,12 @@ pub record Demand1 : Type 0 where
   -- what is refused is told from what is done by its number
   pub refusalIsNot0 : ((q : Queue) (c : BenchCall) → NotRefusedWith0 q c) × ((o : Opening) → openedAs o .answer ≡ Opened.Refused done → ⊥)
   pub recordedRefusalIsNot0 : (q : Queue) (log : List ℕ) (used : ℕ) (c : BenchCall) → RecordedNotRefusedWith0 q log used c
+  -- nor is a question refused with 0: what it says with 0 has a value
+  pub askedRefusalIsNot0 : ((q : Queue) (a : QueueQuestion) → toldTo q a ≡ says done [] → ⊥) × ((g : Groups) (id : ℕ) (a : QueueQuestion) → toldById g id a ≡ says done [] → ⊥)
+      × ((g : Groups) (id : ℕ) → toldSays (acceptsIn g id) ≡ says done [] → ⊥) × ((g : Groups) (a : RecordQuestion) → toldSays (recordTold g a) ≡ says done [] → ⊥)
+      × ((g : Groups) → lenSays (lenOf g) ≡ says done [] → ⊥)
+  -- 9 has its place in pop's order, and is never given
+  pub neverHollow : (q : Queue) → popped q .answer ≡ Popped.Refused hollow → ⊥
   pub nothingChanged : (q : Queue) (c : BenchCall) → RefusedAs q (givenTo c) (saidBy q c) (leftBy q c)
   pub blankOpening : (o : Opening) → RefusedAs blank [] (openedSays (openedAs o .answer)) (openedAs o .queue)
   pub nothingChangedRecorded : (b : Bench) (c : BenchCall) → (numberOf b (callOn (b .queue) c) ≡ done → ⊥) → called b (callOn (b .queue) c) ≡ b
@@ -99,23 +115,71 @@ pub record Demand1 : Type 0 where
 
 -- ---- demand 2: what the calls' equations come to
 pub record Demand2 : Type 0 where
+  -- the check says yes to exactly the records of R13 to R20
+  pub wellFormedMeans : (q : Queue) → (wellFormed q ≡ true) ↔ SoundQueue q
+  -- every call leaves what the opening gave: kind, domain and bindings. What becomes of the other parts follows, call by call
+  pub openingStays : (q : Queue) (c : Call) → SameOpening q (after q c)
+  -- a token given: the number stands in its slot, the count rises by 1; nothing else changes, but the phase by a land
+  pub birthStores : (q : Queue) → Sized q → (n : ℕ) → Pushes q n (registered q n) × Pushes q n (landed q n)
+  pub birthLeaves : (q : Queue) (n : ℕ) → LeavesSelected q (registered q n .queue) × (registered q n .queue .phase ≡ q .phase) × LeavesSelected q (landed q n .queue)
+  pub landMoves : (q : Queue) (n token : ℕ) → landed q n .answer ≡ Registered.Token token → (isPending (q .phase) ≡ true) × (landed q n .queue .phase ≡ phaseAfter (q .phase) Event.Land)
+  -- work handed out: its slot empties, its ticket is selected and issued, next rises by 1 with a fresh ticket; without work nothing changes
+  pub popLeaves : (q : Queue) (t : Ticket) (number : ℕ) → popped q .answer ≡ Work t number
+      → (popped q .queue .slots ≡ set (q .slots) (t .token) 0) × (popped q .queue .selection ≡ Of t) × (popped q .queue .issued ≡ true) × TakesNext q (popped q .queue)
+  pub popStays : (q : Queue) → (popped q .queue .phase ≡ q .phase) × (popped q .queue .failed ≡ q .failed) × (popped q .queue .count ≡ q .count)
+  pub popNothing : (q : Queue) → handsOut (popped q .answer) ≡ false → popped q .queue ≡ q
+  -- a reply is taken in exactly if its ticket is out, and Done keeps nothing: then the slot has the kept number, and failed says the outcome
+  pub settlesExactly : (q : Queue) (t : Ticket) (outcome kept : ℕ) → (completed q t outcome kept .answer ≡ Completed.Settled)
+      ↔ ((wellFormed q ≡ true) × (q .issued ≡ true) × (q .selection ≡ Of t) × (outcome ≤ 1) × (outcome ≡ 0 → kept ≡ 0))
+  pub completeLeaves : (q : Queue) (t : Ticket) (outcome kept : ℕ) → completed q t outcome kept .answer ≡ Completed.Settled → TakesBack q t outcome kept (completed q t outcome kept .queue)
+      × (completed q t outcome kept .queue .phase ≡ q .phase) × (completed q t outcome kept .queue .next ≡ q .next)
+  -- a ticket is renewed exactly if it has failed, its slot is full and an attempt is left: it takes next, and next rises by 1
+  pub retriesExactly : (q : Queue) → ((t : Ticket) × (retried q .answer ≡ Retried.Again t))
+      ↔ ((wellFormed q ≡ true) × (q .failed ≡ true) × (q .next < noMore) × ((s : Ticket) × (q .selection ≡ Of s) × (slot q (s .token) ≡ 0 → ⊥)))
+  pub retryLeaves : (q : Queue) (t : Ticket) → retried q .answer ≡ Retried.Again t
+      → (s : Ticket) × (q .selection ≡ Of s) × (t ≡ record { domain = s .domain; token = s .token; attempt = q .next }) × RenewsTo q t (retried q .queue)
+  -- R28 to R32, row by row: Idle, Pending, Ended, Stopping, Closed
+  pub stageTable : (phaseLine Phase.Idle ≡ 1 ∷ 0 ∷ 0 ∷ 4 ∷ 0 ∷ 0 ∷ 0 ∷ []) × (phaseLine Phase.Pending ≡ 1 ∷ 0 ∷ 2 ∷ 3 ∷ 1 ∷ 0 ∷ 0 ∷ []) × (phaseLine Phase.Ended ≡ 2 ∷ 2 ∷ 2 ∷ 4 ∷ 0 ∷ 1 ∷ 0 ∷ [])
+      × (phaseLine Phase.Stopping ≡ 3 ∷ 4 ∷ 4 ∷ 3 ∷ 1 ∷ 0 ∷ 1 ∷ []) × (phaseLine Phase.Closed ≡ 4 ∷ 4 ∷ 4 ∷ 4 ∷ 0 ∷ 1 ∷ 1 ∷ [])
+  -- admit, end and cancel move the phase by the table of R28, and nothing else; admit only where a target is given that matches
+  pub stageLeaves : (q : Queue) (matched : Bool) → StaysButPhase q (admitted q matched .queue) × StaysButPhase q (ended q .queue) × StaysButPhase q (cancelledBy q .queue)
+  pub stageMoves : (q : Queue) (matched : Bool) → wellFormed q ≡ true → (admitted q matched .queue .phase ≡ (if matched then phaseAfter (q .phase) Event.Admit else q .phase))
+      × (ended q .queue .phase ≡ phaseAfter (q .phase) Event.End) × (cancelledBy q .queue .phase ≡ phaseAfter (q .phase) Event.Cancel)
+  pub matchMeans : (q : Queue) (target : List ℕ) → (matches q target ≡ true) ↔ SameMembers target (committed q)
+  -- what each call and each question says: the first refusal that is due with what it gives back, or 0 with its own values
+  pub callsSay : (q : Queue) (c : BenchCall) → saidBy q c ≡ firstSaid (orderOf q c) (givenTo c) (ownValues q c)
+  pub asksSay : (q : Queue) (a : QueueQuestion) → toldTo q a ≡ firstSaid (brokenOnly q) [] (meantBy q a ∷ [])
+  pub emptyMeans : (q : Queue) → (isEmptyTold q ≡ Yes) ↔ ((wellFormed q ≡ true) × (q .selection ≡ Free) × (waiting q ≡ []))
+  pub canRetryMeans : (q : Queue) → (canRetryTold q ≡ Yes) ↔ ((t : Ticket) × (retried q .answer ≡ Retried.Again t))
+  -- the cases W1 to W12 that were worked out by hand
+  pub markedCases : definitionSays table ≡ paperSays table
   -- pop hands out exactly when something may be handed out, and then the ready ticket or the newest waiting token's
   pub handsOutExactly : (q : Queue) → handsOut (popped q .answer) ≡ mayHandOut q
   pub handsOutThis : (q : Queue) (t : Ticket) (number : ℕ) → popped q .answer ≡ Work t number → HandedOut q t number
+  -- a token waits exactly if its slot is full and it is not the selected one
+  pub waitsExactly : (q : Queue) (k : ℕ) → (member k (waiting q) ≡ true) ↔ ((slot q k ≡ 0 → ⊥) × ((t : Ticket) → q .selection ≡ Of t → t .token ≡ k → ⊥))
   -- the waiting order: ascending; a birth comes behind all, a fresh ticket takes the last
   pub waitingRises : (q : Queue) → Rising (waiting q)
   pub birthWaitsLast : (q : Queue) → Sized q → (n : ℕ) → Appends q (registered q n) × Appends q (landed q n)
   pub popTakesLast : (q : Queue) → Drops q (popped q)
+  -- and a ready ticket takes none; any other call leaves the list
+  pub readyKeepsWaiting : (q : Queue) (t : Ticket) → q .selection ≡ Of t → waiting (popped q .queue) ≡ waiting q
+  pub othersKeepWaiting : (q : Queue) → ((t : Ticket) (outcome kept : ℕ) → waiting (completed q t outcome kept .queue) ≡ waiting q) × (waiting (retried q .queue) ≡ waiting q)
+      × ((matched : Bool) → waiting (admitted q matched .queue) ≡ waiting q) × (waiting (ended q .queue) ≡ waiting q) × (waiting (cancelledBy q .queue) ≡ waiting q)
   -- can_finish, both ways, and one that is not empty
   pub finishMeans : (q : Queue) (target : List ℕ) → (canFinishTold q target ≡ Yes) ↔ Finishable q target
   pub finishHappens : canFinishTold (iteratorOf 0 0 (4 ∷ 9 ∷ [])) (9 ∷ 4 ∷ 9 ∷ []) ≡ Yes
   -- what an opening leaves, every part
   pub openedAsGiven : (o : Opening) → openedAs o .answer ≡ Opened.Open → OpenedParts o (openedAs o .queue)
+  -- the blank queue is the scope of domain 0 and first attempt 0, and its test says yes to no other
+  pub blankMeans : (blank ≡ scopeOf 0 0) × ((q : Queue) → Sized q → (isBlank q ≡ true) ↔ (q ≡ blank))
   -- from it on, whatever is called: well formed, attempts first, plus 1, plus 2, and tokens 0 to 63
   pub staysSound : (o : Opening) (cs : List Call) → wellFormed (afterAll (openedAs o .queue) cs) ≡ true
   pub attemptsExactly : (o : Opening) → openedAs o .answer ≡ Opened.Open → o .heading .first ≤ noMore → (cs : List Call)
       → Counts (o .heading .first) noMore (attempts (openedAs o .queue) cs)
   pub tokensExactly : (o : Opening) → openedAs o .answer ≡ Opened.Open → (cs : List Call) → Counts 0 64 (tokens (openedAs o .queue) cs)
+  -- and from any other well-formed queue on
+  pub soundQueueStays : (q : Queue) (cs : List Call) → wellFormed q ≡ true → wellFormed (afterAll q cs) ≡ true
   -- the groups. A call on a live id says what the queue's own call says, and that place alone has the queue that it leaves
   pub groupAsQueue : (g : Groups) (i : ℕ) → LiveGroup g i → (c : BenchCall) → (saidOfGroups g (byId (idAt g i) c) ≡ saidBy (queueAt g i) c)
       × (groupsAfter g (byId (idAt g i) c) ≡ withQueue g i (leftBy (queueAt g i) c))
@@ -125,13 +189,18 @@ pub record Demand2 : Type 0 where
   -- on any other id it says 10
   pub noSuchGroup : (g : Groups) (id : ℕ) → SixteenPlaces g → wellGrouped g ≡ true → (IsLive g id → ⊥)
       → ((c : BenchCall) → saidOfGroups g (byId id c) .number ≡ noGroup) × (saidOfGroups g (GroupCall.remove id) .number ≡ noGroup) × ((a : QueueQuestion) → toldById g id a .number ≡ noGroup)
+      × (toldSays (acceptsIn g id) .number ≡ noGroup) × (gotSays (got g id .answer) .number ≡ noGroup)
   -- a live group that a call is not for keeps its whole place
   pub otherGroupsStay : (g : Groups) → SixteenPlaces g → (c : GroupCall) (j : ℕ) → LiveAt g j → isFor c (idAt g j) ≡ false → placeAt (groupsAfter g c) j ≡ placeAt g j
   -- the check says yes to exactly the sound records; a new one has the root alone; from it on, whatever is called, it is sound
   pub checkMeansSound : (g : Groups) → SixteenPlaces g → (wellGrouped g ≡ true) ↔ Sound g
   pub newHasRoot : (base : ℕ) → base ≤ lastBase → newOf base ≡ record { answer = Opened.Open; groups = withOpened (emptyOf base) 0 (scopeOf base 0) }
   pub groupsStaySound : (base : ℕ) (cs : List GroupCall) → (wellGrouped (groupsAfterAll (newOf base .groups) cs) ≡ true) × SixteenPlaces (groupsAfterAll (newOf base .groups) cs)
-  -- an opening that is done gave the next id, and put a fresh queue into the lowest free place
+  -- and from any other sound record on
+  pub soundGroupsStay : (g : Groups) (cs : List GroupCall) → SixteenPlaces g → wellGrouped g ≡ true → (wellGrouped (groupsAfterAll g cs) ≡ true) × SixteenPlaces (groupsAfterAll g cs)
+  -- an opening is done exactly if there is room for it; it gave the next id, and put a fresh queue into the lowest free place and nowhere else
+  pub opensExactly : (g : Groups) → SixteenPlaces g → (((n : ℕ) × (addedScope g .answer ≡ Added.Id n)) ↔ RoomToOpen g)
+      × ((bindings : List ℕ) → ((n : ℕ) × (addedIterator g bindings .answer ≡ Added.Id n)) ↔ ((length bindings ≤ 16) × RoomToOpen g))
   pub openedGroup : (g : Groups) → SixteenPlaces g → (n : ℕ) → (addedScope g .answer ≡ Added.Id n → AddedAs g n (scopeOf (nextDomain g) 0) (addedScope g .groups))
       × ((bindings : List ℕ) → addedIterator g bindings .answer ≡ Added.Id n → AddedAs g n (iteratorOf (nextDomain g) 0 bindings) (addedIterator g bindings .groups))
   -- ids: one that was given and is not live never is again, that of a closed group too; live groups have domains of their own
@@ -144,6 +213,7 @@ pub record Demand2 : Type 0 where
   -- seal is done exactly if nothing is left in any group, and then none is live any more, whatever is called
   pub sealsExactly : (g : Groups) → SixteenPlaces g → (sealedIn g .answer ≡ Closed.Done)
       ↔ ((wellGrouped g ≡ true) × (g .sealed ≡ false) × ((i : ℕ) → i < 16 → LiveAt g i → DrainedQueue (queueAt g i)))
+  pub sealLeaves : (g : Groups) → SixteenPlaces g → sealedIn g .answer ≡ Closed.Done → sealedIn g .groups ≡ record { base = g .base; next = g .next; sealed = true; places = replicate 16 freePlace }
   pub sealedForGood : (g : Groups) → SixteenPlaces g → sealedIn g .answer ≡ Closed.Done → (cs : List GroupCall) (id : ℕ) → IsLive (groupsAfterAll (sealedIn g .groups) cs) id → ⊥
   -- retry_all: yes exactly if can_retry_all says so, and else it changes nothing
   pub roundExactly : (g : Groups) → (retriedAll g .answer ≡ Yes) ↔ (canRetryAllOf g ≡ Yes)
@@ -152,9 +222,16 @@ pub record Demand2 : Type 0 where
   pub roundRetries : (g : Groups) (i : ℕ) → LiveGroup g i → retriedAll g .answer ≡ Yes → queueAt g i .failed ≡ true
       → (queueAt (retriedAll g .groups) i ≡ retried (queueAt g i) .queue) × ((t : Ticket) × (retried (queueAt g i) .answer ≡ Retried.Again t))
   pub roundKeeps : (g : Groups) (i : ℕ) → queueAt g i .failed ≡ false → placeAt (retriedAll g .groups) i ≡ placeAt g i
-  -- what a yes means, and how many are live
+  -- and what groups there are stays; it does say yes, here of a record whose root has failed
+  pub roundFrame : (g : Groups) → Frame g (retriedAll g .groups)
+  pub roundHappens : retriedAll (groupsAfterAll (newOf 0 .groups) (GroupCall.register 0 72 ∷ GroupCall.pop 0 ∷ GroupCall.complete 0 (record { domain = 0; token = 0; attempt = 0 }) 1 72 ∷ [])) .answer ≡ Yes
+  -- what a yes means, and how many are live: none, and 1 more with an opening, 1 less with a closing
   pub yesMeans : (g : Groups) → SixteenPlaces g → (a : RecordQuestion) → (recordTold g a ≡ Yes) ↔ ((wellGrouped g ≡ true) × YesMeans g a)
   pub lenTells : (g : Groups) → wellGrouped g ≡ true → lenSays (lenOf g) ≡ says done (liveCount (g .places) ∷ [])
+  pub lenCounts : (g : Groups) → SixteenPlaces g → ((liveCount (g .places) ≡ 0) ↔ ((i : ℕ) → i < 16 → placeAt g i .live ≡ false))
+      × ((n : ℕ) → addedScope g .answer ≡ Added.Id n → liveCount (addedScope g .groups .places) ≡ liveCount (g .places) + 1)
+      × ((bindings : List ℕ) (n : ℕ) → addedIterator g bindings .answer ≡ Added.Id n → liveCount (addedIterator g bindings .groups .places) ≡ liveCount (g .places) + 1)
+      × ((id : ℕ) → removed g id .answer ≡ Closed.Done → liveCount (removed g id .groups .places) + 1 ≡ liveCount (g .places))
 
 -- ---- demand 3: a log names each change; the reader accepts exactly the logs that recorded calls can leave, and finds what they leave
 pub record Demand3 : Type 0 where
