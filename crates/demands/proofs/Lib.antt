@@ -1,2 +1,3 @@
 pub mod GroupTheorems
+pub mod RecordedTheorems
 pub mod Theorems

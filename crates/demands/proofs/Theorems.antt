@@ -40,11 +40,13 @@ use Rattle.cleanup_groups.proofs.Ids.{gone-stays, closed-for-good, domains-diff
 use Rattle.cleanup_groups.proofs.Rounds.{round-no}
 use Rattle.cleanup_groups.proofs.Upstream.{scope-as, iterator-as}
 use Rattle.cleanup_groups.proofs.Says.{len-says, new-numbered, get-numbered}
+use Rattle.cleanup_log.proofs.ReaderNumbers.{reader-number, reader-blank}
 use Rattle.log_reader.proofs.ReaderLanguage.{reader-language}
+use Rattle.log_reader.proofs.Rightly.{reads-from}
 use Rattle.log_reader.proofs.Unique.{reads-one}
 use Rattle.history.specs.Histories.{Bench, numberOf}
 use Rattle.history.specs.Benches.{BenchCall, callOn}
-use Rattle.history.proofs.Written.{refused-stays, goes}
+use Rattle.history.proofs.Written.{refused-stays, goes, quiet-stays}
 use Rattle.history.proofs.Accepts.{history-read, bad-read}
 use Rattle.history.proofs.Demand.{same-record}
 use Rattle.history.proofs.WordLogs.{word-logs}
@@ -57,6 +59,7 @@ use Rattle.demands.specs.Demands.{Demand1, Demand2, Demand3, LibraryDema
 use Rattle.demands.proofs.GroupTheorems.{one-number-groups, one-number-groups-asked, groups-not-refused-with-0, groups-unchanged, empty-new, blank-get, new-has-root}
 use Rattle.demands.proofs.GroupTheorems.{group-as-queue, asked-as-queue, get-gives, no-such-group, other-groups-stay, closes-exactly, close-frees}
 use Rattle.demands.proofs.GroupTheorems.{seals-exactly, sealed-for-good, round-exactly, round-retries, round-keeps-place, yes-means}
+use Rattle.demands.proofs.RecordedTheorems.{recorded-answers, refused-recorded}
 
 one-number : (q : Queue) (c : BenchCall) → saidBy q c .number ≡ firstDue (orderOf q c)
 one-number q (BenchCall.register n) = register-number q n
@@ -137,6 +140,10 @@ demand1 = record {
   blankOpening = opening-refused;
   nothingChangedRecorded = λ b c. refused-stays b (callOn (b .queue) c);
   givenBackRecorded = λ q log used. (register-recorded-returns q log used, land-recorded-returns q log used, complete-recorded-returns q log used);
+  recordedAnswers = recorded-answers;
+  refusedRecorded = refused-recorded;
+  oneNumberRead = reader-number;
+  blankRead = reader-blank;
   oneNumberGroups = one-number-groups;
   oneNumberGroupsAsked = one-number-groups-asked;
   oneNumberNew = new-number;
@@ -187,7 +194,9 @@ demand2 = record {
 pub demand3 : Demand3
 demand3 = record {
   rowsNameChanges = call-changes;
+  quietCall = quiet-stays;
   rowIsWritten = λ b c fit room. goes b c (record { fits = fit; room = room });
+  everyLogRead = reads-from;
   readerAccepts = reader-language;
   oneReading = reads-one;
   oneSet = word-logs;

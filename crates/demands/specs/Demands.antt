@@ -2,7 +2,7 @@
 use Prim.Native.Nat.{ℕ, _+_, _<_, _≤_}
 use mathlib.Core.Path.{_≡_}
 use mathlib.Core.Logic.{_↔_}
-use mathlib.Core.Bool.{true, false, not}
+use mathlib.Core.Bool.{Bool, true, false, not}
 use mathlib.Core.List.{List, [], _∷_}
 use lib.ListN.{length, take}
 use Rattle.queue_record.specs.Record.{Sized}
@@ -52,10 +52,11 @@ use Rattle.log_attempts.specs.Attempts.{completeRecorded}
 use Rattle.log_language.specs.Readings.{every}
 use Rattle.log_language.specs.FirstBad.{WordsBelong}
 use Rattle.log_reader.specs.Reader.{ReadsAs, readSays, reading, settingOf}
+use Rattle.log_reader.specs.Walk.{readFrom}
 use Rattle.log_reader.specs.InLanguage.{InLanguage}
 use Rattle.log_reader.specs.declared.reading.Read.{Read}
 use Rattle.log_reader.specs.declared.reading.Reading.{Reading}
-use Rattle.cleanup_log.specs.RecordedOrders.{recordedOrder}
+use Rattle.cleanup_log.specs.RecordedOrders.{recordedOrder, readOrder}
 use Rattle.cleanup_log.specs.Entries.{entryOf}
 use Rattle.history.specs.Histories.{Bench, bench, called, numberOf, Start, History, wordsWritten, rowsOf, openedQueue}
 use Rattle.history.specs.Fits.{isWord}
@@ -69,6 +70,7 @@ use Rattle.demands.specs.CallTables.{saidBy, orderOf, givenTo, NotRefuse
 use Rattle.demands.specs.CallTables.{saidOfGroups, groupsOrder, givenToGroups, GroupsNotRefusedWith0, GroupsRefusedAs, byId, isFor, toldById}
 use Rattle.demands.specs.CallTables.{RecordQuestion, recordTold, YesMeans, GroupQuestion, groupsTold, groupsAskedOrder, SixteenPlaces}
 use Rattle.demands.specs.CallTables.{LiveGroup}
+use Rattle.demands.specs.RecordedTables.{saidRecorded}
 
 -- ---- demand 1: every record and every input gets one answer, a refusal has one number, changes nothing and gives the number back.
 -- That each call ends, on every input, is what its contract says by asking for nothing
@@ -87,6 +89,15 @@ pub record Demand1 : Type 0 where
   pub givenBackRecorded : (q : Queue) (log : List ℕ) (used : ℕ) → ((n refusal given : ℕ) → registerRecorded q n log used .answer ≡ Registered.Refused refusal given → given ≡ n)
       × ((n refusal given : ℕ) → landRecorded q n log used .answer ≡ Registered.Refused refusal given → given ≡ n)
       × ((t : Ticket) (outcome kept refusal given : ℕ) → completeRecorded q t outcome kept log used .answer ≡ Completed.Refused refusal given → given ≡ kept)
+  -- a recorded call says, and leaves in the queue, what the plain one does, or it is refused and gives back the number that it was given
+  pub recordedAnswers : (b : Bench) (c : BenchCall) → (saidRecorded b c .number ≡ numberOf b (callOn (b .queue) c))
+      × (numberOf b (callOn (b .queue) c) ≡ done → (saidRecorded b c ≡ saidBy (b .queue) c) × (called b (callOn (b .queue) c) .queue ≡ leftBy (b .queue) c))
+  pub refusedRecorded : (b : Bench) (c : BenchCall) → (saidRecorded b c .number ≡ done → ⊥) → saidRecorded b c .values ≡ givenTo c
+  -- the reader: 14 where the opening is refused, with place 0 and the blank queue; then 16 exactly if the log does not belong
+  pub oneNumberRead : (o : Opening) (log : List ℕ) (r : Reading) → ReadsAs o log r
+      → (belongs : Bool) × ((belongs ≡ true) ↔ WordsBelong (settingOf o) log) × (readSays (r .answer) .0 ≡ firstDue (readOrder o belongs))
+  pub blankRead : (o : Opening) (log : List ℕ) (r : Reading) → ReadsAs o log r → (firstDue (openingOrder o) ≡ done → ⊥)
+      → r ≡ reading (Read.Refused (firstDue (openingOrder o)) 0) blank
   -- the groups: every call, every question, a new record; what a refused one leaves, and what stands beside a refused get
   pub oneNumberGroups : (g : Groups) (c : GroupCall) → saidOfGroups g c .number ≡ firstDue (groupsOrder g c)
   pub oneNumberGroupsAsked : (g : Groups) (a : GroupQuestion) → groupsTold g a .number ≡ firstDue (groupsAskedOrder g a)
@@ -160,11 +171,14 @@ pub record Demand2 : Type 0 where
 pub record Demand3 : Type 0 where
   -- a call writes its row exactly if it changes the queue
   pub rowsNameChanges : (q : Queue) (c : Call) → (entryOf q c .changed ≡ false → after q c ≡ q) × (entryOf q c .changed ≡ true → after q c ≡ q → ⊥)
-  -- and then, with room, it is accepted, and its row stands behind the used ones
+  -- one that does not, accepted, leaves record, used count and log
+  pub quietCall : (b : Bench) (c : Call) → numberOf b c ≡ done → entryOf (b .queue) c .changed ≡ false → called b c ≡ b
+  -- one that does, with room, is accepted, and its row stands behind the used ones
   pub rowIsWritten : (b : Bench) (c : Call) → rowsFit (length (b .log)) (b .used) ≡ true → hasRoom (length (b .log)) (b .used) ≡ true
       → entryOf (b .queue) c .refusal ≡ done → entryOf (b .queue) c .changed ≡ true
       → (numberOf b c ≡ done) × (called b c ≡ bench (after (b .queue) c) (b .used + 1) (written (b .log) (b .used) (flat (entryOf (b .queue) c .row))))
-  -- the reader accepts a log exactly when it belongs, and one answer is right
+  -- the reader has a right answer for every log, accepts a log exactly when it belongs, and one answer is right
+  pub everyLogRead : (o : Opening) (log : List ℕ) → ReadsAs o log (readFrom (openedAs o) log)
   pub readerAccepts : (o : Opening) (log : List ℕ) (r : Reading) → ReadsAs o log r → (readSays (r .answer) .0 ≡ done) ↔ InLanguage o log
   pub oneReading : (o : Opening) (log : List ℕ) (r s : Reading) → ReadsAs o log r → ReadsAs o log s → r ≡ s
   -- recorded histories and the language are one set: of words, by calls of words, whole rows, in any memory with room

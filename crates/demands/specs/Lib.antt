@@ -1,2 +1,3 @@
 pub mod CallTables
+pub mod RecordedTables
 pub mod Demands
