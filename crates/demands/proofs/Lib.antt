@@ -1,3 +1,4 @@
 pub mod GroupTheorems
 pub mod RecordedTheorems
+pub mod LibraryTheorems
 pub mod Theorems

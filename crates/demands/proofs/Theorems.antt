@@ -51,7 +51,8 @@ use Rattle.history.proofs.Accepts.{history-read, bad-read}
 use Rattle.history.proofs.Demand.{same-record}
 use Rattle.history.proofs.WordLogs.{word-logs}
 use Rattle.library_laws.proofs.Sounds.{scope-sound, iterator-sound}
-use Rattle.library_laws.proofs.Sessions.{session-sound, read-back-same}
+use Rattle.library_laws.proofs.OneAnswer.{read-on-is, read-on-none}
+use Rattle.library_laws.proofs.Sessions.{logged-refused, session-sound, read-back-same}
 use Rattle.library_laws.proofs.NeverOne.{never-one, never-one-asked}
 use Rattle.demands.specs.CallTables.{saidBy, orderOf, givenTo, NotRefusedWith0, RecordedNotRefusedWith0, leftBy, QueueQuestion, asksEmpty, asksIssued, asksPending, asksSettled}
 use Rattle.demands.specs.CallTables.{asksCancelled, asksFailed, asksRetry, asksFinish, asksDomain, toldTo}
@@ -60,6 +61,7 @@ use Rattle.demands.proofs.GroupTheorems.{one-number-groups, one-number-
 use Rattle.demands.proofs.GroupTheorems.{group-as-queue, asked-as-queue, get-gives, no-such-group, other-groups-stay, closes-exactly, close-frees}
 use Rattle.demands.proofs.GroupTheorems.{seals-exactly, sealed-for-good, round-exactly, round-retries, round-keeps-place, yes-means}
 use Rattle.demands.proofs.RecordedTheorems.{recorded-answers, refused-recorded}
+use Rattle.demands.proofs.LibraryTheorems.{words-are-records, sound-told, opens-as-the-call, as-the-call, asked-as-the-call, recorded-as-the-call, no-record, no-record-logged, made-refused}
 
 one-number : (q : Queue) (c : BenchCall) → saidBy q c .number ≡ firstDue (orderOf q c)
 one-number q (BenchCall.register n) = register-number q n
@@ -207,6 +209,19 @@ demand3 = record {
 
 pub library-demand : LibraryDemand
 library-demand = record {
+  wordsAreRecords = words-are-records;
+  soundTold = sound-told;
+  opensAsTheCall = opens-as-the-call;
+  asTheCall = as-the-call;
+  askedAsTheCall = asked-as-the-call;
+  recordedAsTheCall = recorded-as-the-call;
+  readsAsTheReader = λ ws kind domain first bindings log x. (
+    λ l. read-on-is ws kind domain first bindings log l x,
+    λ l. read-on-none ws kind domain first bindings log l x,
+  );
+  noRecord = no-record;
+  noRecordLogged = no-record-logged;
+  refusedWords = (made-refused nothing-changed, logged-refused);
   opensSound = λ s domain first bindings. (scope-sound domain first, iterator-sound domain first bindings);
   neverBroken = session-sound;
   neverOne = never-one;
