@@ -144,12 +144,13 @@ module _ (ws : List ℕ) (e : encodes ws ≡ true) where
   asked-as : (b : Bool) → TellsAs (toldOn ws (asked (queueOf ws) b)) (asked (queueOf ws) b)
   asked-as b = miss _ (ap not e) ∙ told-written ws (asked (queueOf ws) b) (asked-apart (queueOf ws) b)
 
-  pub questions-as : (target : List ℕ) → TellsAs (isEmptyOn ws) (isEmptyTold (queueOf ws)) × TellsAs (isIssuedOn ws) (isIssuedTold (queueOf ws))
-      × TellsAs (isPendingOn ws) (isPendingTold (queueOf ws)) × TellsAs (isSettledOn ws) (isSettledTold (queueOf ws))
-      × TellsAs (isCancelledOn ws) (isCancelledTold (queueOf ws)) × TellsAs (hasFailedOn ws) (hasFailedTold (queueOf ws))
-      × TellsAs (canRetryOn ws) (canRetryTold (queueOf ws)) × TellsAs (canFinishOn ws target) (canFinishTold (queueOf ws) target)
-  unfolding isEmptyOn isIssuedOn isPendingOn isSettledOn isCancelledOn hasFailedOn canRetryOn canFinishOn isEmptyTold isIssuedTold isPendingTold isSettledTold isCancelledTold hasFailedTold canRetryTold canFinishTold
-  questions-as target =
+  abbrev Tells : Told → Type 0
+  Tells t = TellsAs (toldOn ws t) t
+
+  told-as : (target : List ℕ) → Tells (isEmptyTold (queueOf ws)) × Tells (isIssuedTold (queueOf ws)) × Tells (isPendingTold (queueOf ws)) × Tells (isSettledTold (queueOf ws))
+      × Tells (isCancelledTold (queueOf ws)) × Tells (hasFailedTold (queueOf ws)) × Tells (canRetryTold (queueOf ws)) × Tells (canFinishTold (queueOf ws) target)
+  unfolding isEmptyTold isIssuedTold isPendingTold isSettledTold isCancelledTold hasFailedTold canRetryTold canFinishTold
+  told-as target =
       let q : Queue = queueOf ws in (
         asked-as (nothingLeft (q .selection) (waiting q)),
         asked-as (q .issued),
@@ -160,6 +161,13 @@ module _ (ws : List ℕ) (e : encodes ws ≡ true) where
         asked-as (retryAllowed q (q .selection)),
         asked-as (finishable (q .selection) (q .phase) target (committed q)),
       )
+
+  pub questions-as : (target : List ℕ) → TellsAs (isEmptyOn ws) (isEmptyTold (queueOf ws)) × TellsAs (isIssuedOn ws) (isIssuedTold (queueOf ws))
+      × TellsAs (isPendingOn ws) (isPendingTold (queueOf ws)) × TellsAs (isSettledOn ws) (isSettledTold (queueOf ws))
+      × TellsAs (isCancelledOn ws) (isCancelledTold (queueOf ws)) × TellsAs (hasFailedOn ws) (hasFailedTold (queueOf ws))
+      × TellsAs (canRetryOn ws) (canRetryTold (queueOf ws)) × TellsAs (canFinishOn ws target) (canFinishTold (queueOf ws) target)
+  unfolding isEmptyOn isIssuedOn isPendingOn isSettledOn isCancelledOn hasFailedOn canRetryOn canFinishOn
+  questions-as = told-as
 
   pub domain-as : domainOn ws ≡ writtenAs plainWords (domainSays (domainTold (queueOf ws))) ws
   unfolding domainOn

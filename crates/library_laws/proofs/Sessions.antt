@@ -45,7 +45,8 @@ use Rattle.history.proofs.Spoken.{Stands, stands}
 use Rattle.history.proofs.Accepts.{history-read}
 use Rattle.gulberzan_c.specs.ReadBack.{ReadOn, noKind, readBack, readSaid}
 use Rattle.library_laws.specs.CallWords.{WordCall}
-use Rattle.library_laws.specs.Sessions.{Session, session, loggedBy, loggedTo, LibraryCall, opensScope, opensIterator, openingBy, sessionAfter, sessionAfterAll, Recorder, begins, goesOn, usedWords}
+use Rattle.library_laws.specs.Sessions.{Session, session, loggedBy, loggedTo, LibraryCall, opensScope, opensIterator, openingBy}
+use Rattle.library_laws.specs.Sessions.{sessionAfter, sessionAfterAll, Recorder, begins, goesOn, usedWords}
 use Rattle.library_laws.proofs.Sounds.{callOf, born-words, pop-words, complete-words, retry-words, told-words, cancel-words, sound-after, scope-sound, iterator-sound}
 use Rattle.library_laws.proofs.Says.{born-tells, pop-tells, complete-tells, retry-tells, told-number, cancel-tells}
 
