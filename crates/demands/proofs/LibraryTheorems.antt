@@ -9,30 +9,32 @@ use Rattle.choice.proofs.Ways.{hit, pass, and-left, and-right}
 use Rattle.queue_record.specs.Record.{Sized}
 use Rattle.queue_record.specs.Refusals.{done, broken}
 use Rattle.queue_record.specs.WellFormed.{wellFormed}
-use Rattle.queue_record.specs.Openings.{Opening, openedAs}
+use Rattle.queue_record.specs.Openings.{Opening, scopeOpened, iteratorOpened, openedAs}
 use Rattle.queue_record.specs.declared.record.Queue.{Queue}
 use Rattle.queue_questions.specs.Questions.{matches}
 use Rattle.cleanup_queue.specs.Answers.{Said, says, openedSays}
 use Rattle.cleanup_queue.specs.Orders.{RefusedAs}
 use Rattle.queue_words.specs.InPlace.{soundNumber}
 use Rattle.queue_words.specs.Words.{queueOf, wordsOf, encodes, isSound}
-use Rattle.queue_words.specs.Exported.{Exported, OpensOn, registerOn, landOn, popOn, completeOn, retryOn, admitOn, admitWithoutOn, endOn, cancelOn}
+use Rattle.queue_words.specs.Exported.{Exported, openNumber, OpensOn, registerOn, landOn, popOn, completeOn, retryOn, admitOn, admitWithoutOn, endOn, cancelOn}
 use Rattle.queue_words.specs.Exported.{isEmptyOn, isIssuedOn, isPendingOn, isSettledOn, isCancelledOn, hasFailedOn, canRetryOn, canFinishOn, domainOn}
 use Rattle.queue_words.proofs.RoundTrip.{encoded, words-again, queue-again, words-encode, queue-sized}
 use Rattle.gulberzan_c.specs.Recorded.{recordedOn, registerRecordedOn, landRecordedOn, popRecordedOn, completeRecordedOn, retryRecordedOn}
 use Rattle.gulberzan_c.specs.Recorded.{admitRecordedOn, admitWithoutRecordedOn, endRecordedOn, cancelRecordedOn}
 use Rattle.history.specs.Histories.{called}
 use Rattle.history.specs.Benches.{BenchCall, callOn}
-use Rattle.library_laws.specs.CallWords.{WordCall}
-use Rattle.library_laws.specs.Sessions.{Session, loggedBy}
+use Rattle.library_laws.specs.CallWords.{WordCall, wordsAfter}
+use Rattle.library_laws.specs.Sessions.{Session, session, loggedBy, LibraryCall, sessionAfter}
 use Rattle.library_laws.specs.Results.{madeBy, askedOn, WordQuestion, wordsEmpty, wordsIssued, wordsPending, wordsSettled, wordsCancelled, wordsFailed, wordsRetry, wordsFinish, wordsDomain}
 use Rattle.library_laws.specs.Values.{writtenAs}
 use Rattle.library_laws.proofs.Says.{opening-tells}
+use Rattle.library_laws.proofs.OneAnswer.{read-on-some}
+use Rattle.library_laws.proofs.Sessions.{read-steps}
 use Rattle.library_laws.proofs.AsCalls.{register-as, land-as, pop-as, complete-as, retry-as, admit-as, end-as, cancel-as, questions-as, domain-as}
 use Rattle.library_laws.proofs.AsCalls.{register-logged, land-logged, pop-logged, complete-logged, retry-logged, admit-logged, end-logged, cancel-logged}
 use Rattle.demands.specs.CallTables.{saidBy, givenTo, leftBy, toldTo}
 use Rattle.demands.specs.RecordedTables.{saidRecorded}
-use Rattle.demands.specs.LibraryTables.{benchOf, formOf, questionOf, formAsked, benchIn, loggedAs}
+use Rattle.demands.specs.LibraryTables.{benchOf, formOf, questionOf, formAsked, benchIn, loggedAs, LeavesSession}
 
 -- ---- on words that encode a record
 pub as-the-call : (ws : List ℕ) (c : WordCall) → encodes ws ≡ true → madeBy ws c ≡ writtenAs (formOf c) (saidBy (queueOf ws) (benchOf c)) (wordsOf (leftBy (queueOf ws) (benchOf c)))
@@ -150,5 +152,38 @@ sound-told ws = (
 
 -- ---- openings
 pub opens-as-the-call : (o : Opening) (n : ℕ) (words : List ℕ) → OpensOn (openedAs o) n words
-    → (n ≡ openedSays (openedAs o .answer) .number) × (words ≡ wordsOf (openedAs o .queue))
-opens-as-the-call o n words h = (h .number ∙ opening-tells (openedAs o .answer), h .left)
+    ↔ ((n ≡ openedSays (openedAs o .answer) .number) × (words ≡ wordsOf (openedAs o .queue)))
+opens-as-the-call o n words = (
+  λ h. (h .number ∙ opening-tells (openedAs o .answer), h .left),
+  λ p. record { number = p .0 ∙ sym (opening-tells (openedAs o .answer)); left = p .1 },
+)
+
+-- ---- the steps of a session
+after-made : (ws : List ℕ) (c : WordCall) → wordsAfter ws c ≡ madeBy ws c .words
+after-made ws (WordCall.register n) = refl
+after-made ws (WordCall.land n) = refl
+after-made ws WordCall.pop = refl
+after-made ws (WordCall.complete t o k) = refl
+after-made ws WordCall.retry = refl
+after-made ws (WordCall.admit target) = refl
+after-made ws WordCall.admitWithout = refl
+after-made ws WordCall.end = refl
+after-made ws WordCall.cancel = refl
+
+pub session-steps : (s : Session) (c : LibraryCall) (t : Session) → LeavesSession s c t ↔ (t ≡ sessionAfter s c)
+session-steps s (LibraryCall.opensScope domain first) t = (
+  λ h. h .3 ∙ ap (λ (ws : List ℕ). session ws (s .log) (s .used)) (h .2 .left),
+  λ e. (openNumber (scopeOpened domain first .answer), wordsOf (scopeOpened domain first .queue), record { number = refl; left = refl }, e),
+)
+session-steps s (LibraryCall.opensIterator domain first bindings) t = (
+  λ h. h .3 ∙ ap (λ (ws : List ℕ). session ws (s .log) (s .used)) (h .2 .left),
+  λ e. (openNumber (iteratorOpened domain first bindings .answer), wordsOf (iteratorOpened domain first bindings .queue), record { number = refl; left = refl }, e),
+)
+session-steps s (LibraryCall.makes c) t =
+    let m = ap (λ (ws : List ℕ). session ws (s .log) (s .used)) (after-made (s .words) c) in
+    (λ h. h ∙ sym m, λ e. e ∙ m)
+session-steps s (LibraryCall.records c) t = (λ h. h, λ e. e)
+session-steps s (LibraryCall.reads kind domain first bindings log) t = (
+  λ h. h .2 ∙ read-steps s kind domain first bindings log (h .0) (h .1),
+  λ e. let x = read-on-some (s .words) kind domain first bindings log in (x .0, x .1, e ∙ sym (read-steps s kind domain first bindings log (x .0) (x .1))),
+)

@@ -61,7 +61,8 @@ use Rattle.demands.proofs.GroupTheorems.{one-number-groups, one-number-
 use Rattle.demands.proofs.GroupTheorems.{group-as-queue, asked-as-queue, get-gives, no-such-group, other-groups-stay, closes-exactly, close-frees}
 use Rattle.demands.proofs.GroupTheorems.{seals-exactly, sealed-for-good, round-exactly, round-retries, round-keeps-place, yes-means}
 use Rattle.demands.proofs.RecordedTheorems.{recorded-answers, refused-recorded}
-use Rattle.demands.proofs.LibraryTheorems.{words-are-records, sound-told, opens-as-the-call, as-the-call, asked-as-the-call, recorded-as-the-call, no-record, no-record-logged, made-refused}
+use Rattle.demands.proofs.LibraryTheorems.{words-are-records, sound-told, opens-as-the-call, as-the-call, asked-as-the-call, recorded-as-the-call}
+use Rattle.demands.proofs.LibraryTheorems.{no-record, no-record-logged, made-refused, session-steps}
 
 one-number : (q : Queue) (c : BenchCall) → saidBy q c .number ≡ firstDue (orderOf q c)
 one-number q (BenchCall.register n) = register-number q n
@@ -222,6 +223,7 @@ library-demand = record {
   noRecord = no-record;
   noRecordLogged = no-record-logged;
   refusedWords = (made-refused nothing-changed, logged-refused);
+  sessionSteps = session-steps;
   opensSound = λ s domain first bindings. (scope-sound domain first, iterator-sound domain first bindings);
   neverBroken = session-sound;
   neverOne = never-one;

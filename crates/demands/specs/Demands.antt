@@ -63,19 +63,19 @@ use Rattle.history.specs.Fits.{isWord}
 use Rattle.history.specs.Benches.{BenchCall, callOn, WordOpening, LeftIn}
 use Rattle.queue_words.specs.InPlace.{soundNumber}
 use Rattle.queue_words.specs.Words.{queueOf, wordsOf, encodes, isSound}
-use Rattle.queue_words.specs.Exported.{Exported, exported, answerOf, OpensOn}
-use Rattle.gulberzan_c.specs.ReadBack.{readExported, ReadOn}
+use Rattle.queue_words.specs.Exported.{Exported, OpensOn}
+use Rattle.gulberzan_c.specs.ReadBack.{ReadOn}
 use Rattle.gulberzan_c.specs.Recorded.{recordedOn}
 use Rattle.library_laws.specs.CallWords.{WordCall}
 use Rattle.library_laws.specs.Sessions.{Session, loggedBy, loggedTo, LibraryCall, sessionAfter, sessionAfterAll, openingBy, Recorder, usedWords}
 use Rattle.library_laws.specs.Results.{madeBy, WordQuestion, askedOn, Returned, IsOne}
-use Rattle.library_laws.specs.Values.{plainWords, writtenAs}
+use Rattle.library_laws.specs.Values.{plainWords, writtenAs, readWritten}
 use Rattle.demands.specs.CallTables.{saidBy, orderOf, givenTo, NotRefusedWith0, RecordedNotRefusedWith0, leftBy, QueueQuestion, toldTo}
 use Rattle.demands.specs.CallTables.{saidOfGroups, groupsOrder, givenToGroups, GroupsNotRefusedWith0, GroupsRefusedAs, byId, isFor, toldById}
 use Rattle.demands.specs.CallTables.{RecordQuestion, recordTold, YesMeans, GroupQuestion, groupsTold, groupsAskedOrder, SixteenPlaces}
 use Rattle.demands.specs.CallTables.{LiveGroup}
 use Rattle.demands.specs.RecordedTables.{saidRecorded}
-use Rattle.demands.specs.LibraryTables.{benchOf, formOf, questionOf, formAsked, benchIn, loggedAs}
+use Rattle.demands.specs.LibraryTables.{benchOf, formOf, questionOf, formAsked, benchIn, loggedAs, LeavesSession}
 
 -- ---- demand 1: every record and every input gets one answer, a refusal has one number, changes nothing and gives the number back.
 -- That each call ends, on every input, is what its contract says by asking for nothing
@@ -202,14 +202,15 @@ pub record LibraryDemand : Type 0 where
       × ((ws : List ℕ) → encodes ws ≡ true → (wordsOf (queueOf ws) ≡ ws) × Sized (queueOf ws))
   pub soundTold : (ws : List ℕ) → ((soundNumber (isSound ws) ≡ 1) ↔ ((encodes ws ≡ true) × (wellFormed (queueOf ws) ≡ true))) × (soundNumber (isSound ws) ≤ 1)
   -- on a record's words each call is the queue's: its number, its answer's five words and the words that it leaves
-  pub opensAsTheCall : (o : Opening) (n : ℕ) (words : List ℕ) → OpensOn (openedAs o) n words → (n ≡ openedSays (openedAs o .answer) .number) × (words ≡ wordsOf (openedAs o .queue))
+  pub opensAsTheCall : (o : Opening) (n : ℕ) (words : List ℕ) → OpensOn (openedAs o) n words
+      ↔ ((n ≡ openedSays (openedAs o .answer) .number) × (words ≡ wordsOf (openedAs o .queue)))
   pub asTheCall : (ws : List ℕ) (c : WordCall) → encodes ws ≡ true → madeBy ws c ≡ writtenAs (formOf c) (saidBy (queueOf ws) (benchOf c)) (wordsOf (leftBy (queueOf ws) (benchOf c)))
   pub askedAsTheCall : (ws : List ℕ) (a : WordQuestion) → encodes ws ≡ true → askedOn ws a ≡ writtenAs (formAsked a) (toldTo (queueOf ws) (questionOf a)) ws
   pub recordedAsTheCall : (s : Session) (c : WordCall) → encodes (s .words) ≡ true
       → loggedBy s c ≡ loggedAs (formOf c) (saidRecorded (benchIn s) (benchOf c)) (called (benchIn s) (callOn (queueOf (s .words)) (benchOf c)))
   -- the reader's is the reader's by value; a kind that there is not says 1
   pub readsAsTheReader : (ws : List ℕ) (kind domain first : ℕ) (bindings log : List ℕ) (x : Exported)
-      → (kind ≤ 1 → ReadOn ws kind domain first bindings log x ↔ (x ≡ readExported (readFrom (openedAs (openingBy kind domain first bindings)) log)))
+      → (kind ≤ 1 → ReadOn ws kind domain first bindings log x ↔ (x ≡ readWritten (readFrom (openedAs (openingBy kind domain first bindings)) log)))
       × (1 < kind → ReadOn ws kind domain first bindings log x ↔ (x ≡ writtenAs plainWords (says broken []) ws))
   -- other words say 1, stay, and the undo number that was given comes back; so do words, log and used rows of any call that is refused
   pub noRecord : (ws : List ℕ) → encodes ws ≡ false → ((c : WordCall) → madeBy ws c ≡ writtenAs (formOf c) (says broken (givenTo (benchOf c))) ws)
@@ -218,6 +219,8 @@ pub record LibraryDemand : Type 0 where
       → loggedBy s c ≡ recordedOn (writtenAs (formOf c) (says broken (givenTo (benchOf c))) (s .words)) (s .log) (s .used)
   pub refusedWords : ((ws : List ℕ) (c : WordCall) → (madeBy ws c .result ≡ done → ⊥) → madeBy ws c .words ≡ ws)
       × ((s : Session) (c : WordCall) → (loggedBy s c .call .result ≡ done → ⊥) → loggedTo (loggedBy s c) ≡ s)
+  -- a session's steps are these calls
+  pub sessionSteps : (s : Session) (c : LibraryCall) (t : Session) → LeavesSession s c t ↔ (t ≡ sessionAfter s c)
   -- an opening makes sound words of any, and whatever is called they stay sound
   pub opensSound : (s : Session) (domain first : ℕ) (bindings : List ℕ) → (isSound (sessionAfter s (LibraryCall.opensScope domain first) .words) ≡ true)
       × (isSound (sessionAfter s (LibraryCall.opensIterator domain first bindings) .words) ≡ true)
@@ -228,4 +231,4 @@ pub record LibraryDemand : Type 0 where
   pub neverOneAsked : (s : Session) → isSound (s .words) ≡ true → (cs : List LibraryCall) (a : WordQuestion) → askedOn (sessionAfterAll s cs .words) a .result ≡ broken → ⊥
   -- and what its recorded calls left is read back: case 1, all the used rows, and the very same words
   pub sameWords : (kind domain first : ℕ) (bindings memory : List ℕ) (s : Session) → kind ≤ 1 → Recorder (openingBy kind domain first bindings) memory s
-      → (ws : List ℕ) (x : Exported) → ReadOn ws kind domain first bindings (usedWords s) x → x ≡ exported done (answerOf 1 (s .used)) (s .words)
+      → (ws : List ℕ) (x : Exported) → ReadOn ws kind domain first bindings (usedWords s) x → x ≡ writtenAs plainWords (says done (s .used ∷ [])) (s .words)

@@ -1,14 +1,19 @@
 -- The calls for C, a line each: which call of a queue one is, and in which form its answer is written
 use Prim.Native.Nat.{ℕ}
+use mathlib.Core.Path.{_≡_}
 use mathlib.Core.List.{List}
+use Rattle.queue_record.specs.Openings.{scopeOpened, iteratorOpened}
 use Rattle.cleanup_queue.specs.Answers.{Said}
 use Rattle.queue_words.specs.Layout.{atGivenDomain, atGivenToken, atGivenAttempt}
 use Rattle.queue_words.specs.Words.{word, ticketOf, queueOf, wordsOf}
+use Rattle.queue_words.specs.Exported.{Exported, OpensOn}
 use Rattle.gulberzan_c.specs.Recorded.{Recorded, recordedOn}
+use Rattle.gulberzan_c.specs.ReadBack.{ReadOn}
 use Rattle.history.specs.Histories.{Bench, bench}
 use Rattle.history.specs.Benches.{BenchCall}
 use Rattle.library_laws.specs.CallWords.{WordCall}
-use Rattle.library_laws.specs.Sessions.{Session}
+use Rattle.library_laws.specs.Sessions.{Session, session, loggedBy, loggedTo, LibraryCall}
+use Rattle.library_laws.specs.Results.{madeBy}
 use Rattle.library_laws.specs.Results.{WordQuestion, wordsEmpty, wordsIssued, wordsPending, wordsSettled, wordsCancelled, wordsFailed, wordsRetry, wordsFinish, wordsDomain}
 use Rattle.library_laws.specs.Values.{plainWords, workWords, yesNoWords, writtenAs}
 use Rattle.demands.specs.CallTables.{QueueQuestion, asksEmpty, asksIssued, asksPending, asksSettled, asksCancelled, asksFailed, asksRetry, asksFinish, asksDomain}
@@ -65,3 +70,11 @@ benchIn s = bench (queueOf (s .words)) (s .used) (s .log)
 
 abbrev pub loggedAs : (Said → List ℕ) → Said → Bench → Recorded
 loggedAs form s b = recordedOn (writtenAs form s (wordsOf (b .queue))) (b .log) (b .used)
+
+-- ---- any call that writes a queue's words: t is the session that it leaves, as its contract says
+abbrev pub LeavesSession : Session → LibraryCall → Session → Type 0
+LeavesSession s (LibraryCall.opensScope domain first) t = (n : ℕ) × (words : List ℕ) × OpensOn (scopeOpened domain first) n words × (t ≡ session words (s .log) (s .used))
+LeavesSession s (LibraryCall.opensIterator domain first bindings) t = (n : ℕ) × (words : List ℕ) × OpensOn (iteratorOpened domain first bindings) n words × (t ≡ session words (s .log) (s .used))
+LeavesSession s (LibraryCall.makes c) t = t ≡ session (madeBy (s .words) c .words) (s .log) (s .used)
+LeavesSession s (LibraryCall.records c) t = t ≡ loggedTo (loggedBy s c)
+LeavesSession s (LibraryCall.reads kind domain first bindings log) t = (x : Exported) × ReadOn (s .words) kind domain first bindings log x × (t ≡ session (x .words) (s .log) (s .used))

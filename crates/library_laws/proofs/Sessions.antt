@@ -161,6 +161,13 @@ read-leaves s kind domain first bindings log x (readBack r l a) =
     ∙ (ap (λ (y : Reading). wordsOf (y .queue)) (reads-one o log r (readFrom (openedAs o) log) a (reads-from o log))
     ∙ ap (λ (t : Session). t .words) (sym (miss _ (le-ltb 1 kind l))))
 
+-- and nothing else of the session is moved
+pub read-steps : (s : Session) (kind domain first : ℕ) (bindings log : List ℕ) (x : Exported) → ReadOn (s .words) kind domain first bindings log x
+    → session (x .words) (s .log) (s .used) ≡ sessionAfter s (LibraryCall.reads kind domain first bindings log)
+read-steps s kind domain first bindings log x h =
+    ap (λ (ws : List ℕ). session ws (s .log) (s .used)) (read-leaves s kind domain first bindings log x h)
+    ∙ if-by (λ (u : Session). session (u .words) (s .log) (s .used) ≡ u) (ltb 1 kind) _ _ (λ _. refl) (λ _. refl)
+
 -- whatever is called, recorded or read, a queue that was opened stays sound: 1 is never said of it
 pub session-sound : (s : Session) → isSound (s .words) ≡ true → (cs : List LibraryCall) → isSound (sessionAfterAll s cs .words) ≡ true
 session-sound s h [] = h

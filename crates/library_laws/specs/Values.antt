@@ -6,8 +6,10 @@ use lib.ListN.{length, take, drop, replicate}
 use mathlib.Core.Path.{_≡_}
 use Rattle.choice.specs.Choice.{if_then_else_}
 use Rattle.queue_record.specs.Refusals.{done}
-use Rattle.cleanup_queue.specs.Answers.{Said}
-use Rattle.queue_words.specs.Words.{word}
+use Rattle.cleanup_queue.specs.Answers.{Said, says}
+use Rattle.log_reader.specs.Reader.{readSays}
+use Rattle.log_reader.specs.declared.reading.Reading.{Reading}
+use Rattle.queue_words.specs.Words.{word, wordsOf}
 use Rattle.queue_words.specs.Exported.{Exported, exported}
 
 -- R138: an answer's values, with 0 where there are fewer than four
@@ -38,3 +40,7 @@ yesNoWords s = (if eqb (s .number) done then suc (word (s .values) 0) else 0) �
 -- what a call hands back that says s, in one of these forms, and leaves these words
 abbrev pub writtenAs : (Said → List ℕ) → Said → List ℕ → Exported
 writtenAs form s ws = exported (s .number) (form s) ws
+
+-- the reader: its number, the rows or the place, and the words of the queue that it gives
+abbrev pub readWritten : Reading → Exported
+readWritten r = writtenAs plainWords (says (readSays (r .answer) .0) (readSays (r .answer) .1 ∷ [])) (wordsOf (r .queue))
