@@ -57,16 +57,19 @@ use Rattle.cleanup_groups.proofs.Room.{scope-opens-exactly, iterator-opens-exac
 use Rattle.cleanup_groups.proofs.Rounds.{round-no}
 use Rattle.cleanup_groups.proofs.Upstream.{scope-as, iterator-as}
 use Rattle.cleanup_groups.proofs.Says.{len-says, new-numbered, get-numbered}
+use Rattle.cleanup_log.proofs.ReaderNumbers.{reader-number, reader-blank}
 use Rattle.log_reader.proofs.ReaderLanguage.{reader-language}
+use Rattle.log_reader.proofs.Rightly.{reads-from}
 use Rattle.log_reader.proofs.Unique.{reads-one}
 use Rattle.history.specs.Histories.{Bench, numberOf}
 use Rattle.history.specs.Benches.{BenchCall, callOn}
-use Rattle.history.proofs.Written.{refused-stays, goes}
+use Rattle.history.proofs.Written.{refused-stays, goes, quiet-stays}
 use Rattle.history.proofs.Accepts.{history-read, bad-read}
 use Rattle.history.proofs.Demand.{same-record}
 use Rattle.history.proofs.WordLogs.{word-logs}
 use Rattle.library_laws.proofs.Sounds.{scope-sound, iterator-sound}
-use Rattle.library_laws.proofs.Sessions.{session-sound, read-back-same}
+use Rattle.library_laws.proofs.OneAnswer.{read-on-is, read-on-none}
+use Rattle.library_laws.proofs.Sessions.{logged-refused, session-sound, read-back-same}
 use Rattle.library_laws.proofs.NeverOne.{never-one, never-one-asked}
 use Rattle.demands.specs.CallTables.{saidBy, orderOf, givenTo, NotRefusedWith0, RecordedNotRefusedWith0, leftBy, ownValues, QueueQuestion, asksEmpty, asksIssued, asksPending, asksSettled}
 use Rattle.demands.specs.CallTables.{asksCancelled, asksFailed, asksRetry, asksFinish, asksDomain, toldTo, SixteenPlaces}
@@ -76,6 +79,9 @@ use Rattle.demands.proofs.GroupTheorems.{one-number-groups, one-number-
 use Rattle.demands.proofs.GroupTheorems.{group-as-queue, asked-as-queue, get-gives, no-such-group, other-groups-stay, closes-exactly, close-frees}
 use Rattle.demands.proofs.RoundHappens.{round-said-yes}
 use Rattle.demands.proofs.GroupTheorems.{seals-exactly, seal-leaves, round-stays, sealed-for-good, round-exactly, round-retries, round-keeps-place, yes-means}
+use Rattle.demands.proofs.RecordedTheorems.{recorded-answers, refused-recorded}
+use Rattle.demands.proofs.LibraryTheorems.{words-are-records, sound-told, opens-as-the-call, as-the-call, asked-as-the-call, recorded-as-the-call}
+use Rattle.demands.proofs.LibraryTheorems.{no-record, no-record-logged, made-refused, session-steps}
 
 one-number : (q : Queue) (c : BenchCall) → saidBy q c .number ≡ firstDue (orderOf q c)
 one-number q (BenchCall.register n) = register-number q n
@@ -176,6 +182,10 @@ demand1 = record {
   blankOpening = opening-refused;
   nothingChangedRecorded = λ b c. refused-stays b (callOn (b .queue) c);
   givenBackRecorded = λ q log used. (register-recorded-returns q log used, land-recorded-returns q log used, complete-recorded-returns q log used);
+  recordedAnswers = recorded-answers;
+  refusedRecorded = refused-recorded;
+  oneNumberRead = reader-number;
+  blankRead = reader-blank;
   oneNumberGroups = one-number-groups;
   oneNumberGroupsAsked = one-number-groups-asked;
   oneNumberNew = new-number;
@@ -258,7 +268,9 @@ demand2 = record {
 pub demand3 : Demand3
 demand3 = record {
   rowsNameChanges = call-changes;
+  quietCall = quiet-stays;
   rowIsWritten = λ b c fit room. goes b c (record { fits = fit; room = room });
+  everyLogRead = reads-from;
   readerAccepts = reader-language;
   oneReading = reads-one;
   oneSet = word-logs;
@@ -269,6 +281,20 @@ demand3 = record {
 
 pub library-demand : LibraryDemand
 library-demand = record {
+  wordsAreRecords = words-are-records;
+  soundTold = sound-told;
+  opensAsTheCall = opens-as-the-call;
+  asTheCall = as-the-call;
+  askedAsTheCall = asked-as-the-call;
+  recordedAsTheCall = recorded-as-the-call;
+  readsAsTheReader = λ ws kind domain first bindings log x. (
+    λ l. read-on-is ws kind domain first bindings log l x,
+    λ l. read-on-none ws kind domain first bindings log l x,
+  );
+  noRecord = no-record;
+  noRecordLogged = no-record-logged;
+  refusedWords = (made-refused nothing-changed, logged-refused);
+  sessionSteps = session-steps;
   opensSound = λ s domain first bindings. (scope-sound domain first, iterator-sound domain first bindings);
   neverBroken = session-sound;
   neverOne = never-one;

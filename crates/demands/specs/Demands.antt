@@ -62,23 +62,30 @@ use Rattle.log_attempts.specs.Attempts.{completeRecorded}
 use Rattle.log_language.specs.Readings.{every}
 use Rattle.log_language.specs.FirstBad.{WordsBelong}
 use Rattle.log_reader.specs.Reader.{ReadsAs, readSays, reading, settingOf}
+use Rattle.log_reader.specs.Walk.{readFrom}
 use Rattle.log_reader.specs.InLanguage.{InLanguage}
 use Rattle.log_reader.specs.declared.reading.Read.{Read}
 use Rattle.log_reader.specs.declared.reading.Reading.{Reading}
-use Rattle.cleanup_log.specs.RecordedOrders.{recordedOrder}
+use Rattle.cleanup_log.specs.RecordedOrders.{recordedOrder, readOrder}
 use Rattle.cleanup_log.specs.Entries.{entryOf}
 use Rattle.history.specs.Histories.{Bench, bench, called, numberOf, Start, History, wordsWritten, rowsOf, openedQueue}
 use Rattle.history.specs.Fits.{isWord}
 use Rattle.history.specs.Benches.{BenchCall, callOn, WordOpening, LeftIn}
-use Rattle.queue_words.specs.Words.{isSound}
-use Rattle.queue_words.specs.Exported.{Exported}
+use Rattle.queue_words.specs.InPlace.{soundNumber}
+use Rattle.queue_words.specs.Words.{queueOf, wordsOf, encodes, isSound}
+use Rattle.queue_words.specs.Exported.{Exported, OpensOn}
 use Rattle.gulberzan_c.specs.ReadBack.{ReadOn}
-use Rattle.library_laws.specs.Sessions.{Session, LibraryCall, sessionAfter, sessionAfterAll, openingBy, Recorder, usedWords}
-use Rattle.library_laws.specs.Results.{WordQuestion, askedOn, Returned, IsOne}
+use Rattle.library_laws.specs.Sessions.{Session, LibraryCall, sessionAfter, sessionAfterAll, openingBy, Recorder, usedWords, loggedBy, loggedTo}
+use Rattle.library_laws.specs.Results.{WordQuestion, askedOn, Returned, IsOne, madeBy}
 use Rattle.demands.specs.CallTables.{saidBy, orderOf, givenTo, NotRefusedWith0, RecordedNotRefusedWith0, leftBy, ownValues, phaseLine, QueueQuestion, toldTo, meantBy}
+use Rattle.gulberzan_c.specs.Recorded.{recordedOn}
+use Rattle.library_laws.specs.CallWords.{WordCall}
+use Rattle.library_laws.specs.Values.{plainWords, writtenAs, readWritten}
 use Rattle.demands.specs.CallTables.{saidOfGroups, groupsOrder, givenToGroups, GroupsNotRefusedWith0, GroupsRefusedAs, byId, isFor, toldById}
 use Rattle.demands.specs.CallTables.{RecordQuestion, recordTold, YesMeans, GroupQuestion, groupsTold, groupsAskedOrder, SixteenPlaces}
 use Rattle.demands.specs.CallTables.{LiveGroup}
+use Rattle.demands.specs.RecordedTables.{saidRecorded}
+use Rattle.demands.specs.LibraryTables.{benchOf, formOf, questionOf, formAsked, benchIn, loggedAs, LeavesSession}
 
 -- ---- demand 1: every record and every input gets one answer, a refusal has one number, changes nothing and gives the number back.
 -- That each call ends, on every input, is what its contract says by asking for nothing
@@ -103,6 +110,15 @@ pub record Demand1 : Type 0 where
   pub givenBackRecorded : (q : Queue) (log : List ℕ) (used : ℕ) → ((n refusal given : ℕ) → registerRecorded q n log used .answer ≡ Registered.Refused refusal given → given ≡ n)
       × ((n refusal given : ℕ) → landRecorded q n log used .answer ≡ Registered.Refused refusal given → given ≡ n)
       × ((t : Ticket) (outcome kept refusal given : ℕ) → completeRecorded q t outcome kept log used .answer ≡ Completed.Refused refusal given → given ≡ kept)
+  -- a recorded call says, and leaves in the queue, what the plain one does, or it is refused and gives back the number that it was given
+  pub recordedAnswers : (b : Bench) (c : BenchCall) → (saidRecorded b c .number ≡ numberOf b (callOn (b .queue) c))
+      × (numberOf b (callOn (b .queue) c) ≡ done → (saidRecorded b c ≡ saidBy (b .queue) c) × (called b (callOn (b .queue) c) .queue ≡ leftBy (b .queue) c))
+  pub refusedRecorded : (b : Bench) (c : BenchCall) → (saidRecorded b c .number ≡ done → ⊥) → saidRecorded b c .values ≡ givenTo c
+  -- the reader: 14 where the opening is refused, with place 0 and the blank queue; then 16 exactly if the log does not belong
+  pub oneNumberRead : (o : Opening) (log : List ℕ) (r : Reading) → ReadsAs o log r
+      → (belongs : Bool) × ((belongs ≡ true) ↔ WordsBelong (settingOf o) log) × (readSays (r .answer) .0 ≡ firstDue (readOrder o belongs))
+  pub blankRead : (o : Opening) (log : List ℕ) (r : Reading) → ReadsAs o log r → (firstDue (openingOrder o) ≡ done → ⊥)
+      → r ≡ reading (Read.Refused (firstDue (openingOrder o)) 0) blank
   -- the groups: every call, every question, a new record; what a refused one leaves, and what stands beside a refused get
   pub oneNumberGroups : (g : Groups) (c : GroupCall) → saidOfGroups g c .number ≡ firstDue (groupsOrder g c)
   pub oneNumberGroupsAsked : (g : Groups) (a : GroupQuestion) → groupsTold g a .number ≡ firstDue (groupsAskedOrder g a)
@@ -237,11 +253,14 @@ pub record Demand2 : Type 0 where
 pub record Demand3 : Type 0 where
   -- a call writes its row exactly if it changes the queue
   pub rowsNameChanges : (q : Queue) (c : Call) → (entryOf q c .changed ≡ false → after q c ≡ q) × (entryOf q c .changed ≡ true → after q c ≡ q → ⊥)
-  -- and then, with room, it is accepted, and its row stands behind the used ones
+  -- one that does not, accepted, leaves record, used count and log
+  pub quietCall : (b : Bench) (c : Call) → numberOf b c ≡ done → entryOf (b .queue) c .changed ≡ false → called b c ≡ b
+  -- one that does, with room, is accepted, and its row stands behind the used ones
   pub rowIsWritten : (b : Bench) (c : Call) → rowsFit (length (b .log)) (b .used) ≡ true → hasRoom (length (b .log)) (b .used) ≡ true
       → entryOf (b .queue) c .refusal ≡ done → entryOf (b .queue) c .changed ≡ true
       → (numberOf b c ≡ done) × (called b c ≡ bench (after (b .queue) c) (b .used + 1) (written (b .log) (b .used) (flat (entryOf (b .queue) c .row))))
-  -- the reader accepts a log exactly when it belongs, and one answer is right
+  -- the reader has a right answer for every log, accepts a log exactly when it belongs, and one answer is right
+  pub everyLogRead : (o : Opening) (log : List ℕ) → ReadsAs o log (readFrom (openedAs o) log)
   pub readerAccepts : (o : Opening) (log : List ℕ) (r : Reading) → ReadsAs o log r → (readSays (r .answer) .0 ≡ done) ↔ InLanguage o log
   pub oneReading : (o : Opening) (log : List ℕ) (r s : Reading) → ReadsAs o log r → ReadsAs o log s → r ≡ s
   -- recorded histories and the language are one set: of words, by calls of words, whole rows, in any memory with room
@@ -255,6 +274,30 @@ pub record Demand3 : Type 0 where
 
 -- ---- of the library for C
 pub record LibraryDemand : Type 0 where
+  -- every record is encoded by its own words alone, and what encodes one is told; sound are those of a well-formed one
+  pub wordsAreRecords : ((q : Queue) → Sized q → (encodes (wordsOf q) ≡ true) × (queueOf (wordsOf q) ≡ q))
+      × ((ws : List ℕ) → encodes ws ≡ true → (wordsOf (queueOf ws) ≡ ws) × Sized (queueOf ws))
+  pub soundTold : (ws : List ℕ) → ((soundNumber (isSound ws) ≡ 1) ↔ ((encodes ws ≡ true) × (wellFormed (queueOf ws) ≡ true))) × (soundNumber (isSound ws) ≤ 1)
+  -- on a record's words each call is the queue's: its number, its answer's five words and the words that it leaves
+  pub opensAsTheCall : (o : Opening) (n : ℕ) (words : List ℕ) → OpensOn (openedAs o) n words
+      ↔ ((n ≡ openedSays (openedAs o .answer) .number) × (words ≡ wordsOf (openedAs o .queue)))
+  pub asTheCall : (ws : List ℕ) (c : WordCall) → encodes ws ≡ true → madeBy ws c ≡ writtenAs (formOf c) (saidBy (queueOf ws) (benchOf c)) (wordsOf (leftBy (queueOf ws) (benchOf c)))
+  pub askedAsTheCall : (ws : List ℕ) (a : WordQuestion) → encodes ws ≡ true → askedOn ws a ≡ writtenAs (formAsked a) (toldTo (queueOf ws) (questionOf a)) ws
+  pub recordedAsTheCall : (s : Session) (c : WordCall) → encodes (s .words) ≡ true
+      → loggedBy s c ≡ loggedAs (formOf c) (saidRecorded (benchIn s) (benchOf c)) (called (benchIn s) (callOn (queueOf (s .words)) (benchOf c)))
+  -- the reader's is the reader's by value; a kind that there is not says 1
+  pub readsAsTheReader : (ws : List ℕ) (kind domain first : ℕ) (bindings log : List ℕ) (x : Exported)
+      → (kind ≤ 1 → ReadOn ws kind domain first bindings log x ↔ (x ≡ readWritten (readFrom (openedAs (openingBy kind domain first bindings)) log)))
+      × (1 < kind → ReadOn ws kind domain first bindings log x ↔ (x ≡ writtenAs plainWords (says broken []) ws))
+  -- other words say 1, stay, and the undo number that was given comes back; so do words, log and used rows of any call that is refused
+  pub noRecord : (ws : List ℕ) → encodes ws ≡ false → ((c : WordCall) → madeBy ws c ≡ writtenAs (formOf c) (says broken (givenTo (benchOf c))) ws)
+      × ((a : WordQuestion) → askedOn ws a ≡ writtenAs (formAsked a) (says broken []) ws)
+  pub noRecordLogged : (s : Session) (c : WordCall) → encodes (s .words) ≡ false
+      → loggedBy s c ≡ recordedOn (writtenAs (formOf c) (says broken (givenTo (benchOf c))) (s .words)) (s .log) (s .used)
+  pub refusedWords : ((ws : List ℕ) (c : WordCall) → (madeBy ws c .result ≡ done → ⊥) → madeBy ws c .words ≡ ws)
+      × ((s : Session) (c : WordCall) → (loggedBy s c .call .result ≡ done → ⊥) → loggedTo (loggedBy s c) ≡ s)
+  -- a session's steps are these calls
+  pub sessionSteps : (s : Session) (c : LibraryCall) (t : Session) → LeavesSession s c t ↔ (t ≡ sessionAfter s c)
   -- an opening makes sound words of any, and whatever is called they stay sound
   pub opensSound : (s : Session) (domain first : ℕ) (bindings : List ℕ) → (isSound (sessionAfter s (LibraryCall.opensScope domain first) .words) ≡ true)
       × (isSound (sessionAfter s (LibraryCall.opensIterator domain first bindings) .words) ≡ true)
@@ -263,6 +306,6 @@ pub record LibraryDemand : Type 0 where
   pub neverOne : (s : Session) → isSound (s .words) ≡ true → (cs : List LibraryCall) (c : LibraryCall) (n : ℕ) → Returned (sessionAfterAll s cs) c n
       → (n ≡ broken) ↔ IsOne (sessionAfterAll s cs) c
   pub neverOneAsked : (s : Session) → isSound (s .words) ≡ true → (cs : List LibraryCall) (a : WordQuestion) → askedOn (sessionAfterAll s cs .words) a .result ≡ broken → ⊥
-  -- and what its recorded calls left is read back to the very same words
+  -- and what its recorded calls left is read back: case 1, all the used rows, and the very same words
   pub sameWords : (kind domain first : ℕ) (bindings memory : List ℕ) (s : Session) → kind ≤ 1 → Recorder (openingBy kind domain first bindings) memory s
-      → (ws : List ℕ) (x : Exported) → ReadOn ws kind domain first bindings (usedWords s) x → (x .result ≡ done) × (x .words ≡ s .words)
+      → (ws : List ℕ) (x : Exported) → ReadOn ws kind domain first bindings (usedWords s) x → x ≡ writtenAs plainWords (says done (s .used ∷ [])) (s .words)

@@ -1,2 +1,4 @@
 pub mod CallTables
+pub mod RecordedTables
+pub mod LibraryTables
 pub mod Demands

@@ -1,4 +1,5 @@
 pub mod Written
+pub mod Answered
 pub mod RowOfCall
 pub mod Steps
 pub mod Spoken

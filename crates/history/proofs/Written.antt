@@ -1,12 +1,13 @@
 -- One recorded call, whichever: its number and the bench behind it are what its note says
 use Prim.Native.Nat.{ℕ, _+_}
 use mathlib.Core.Path.{_≡_, refl, sym, ap, _∙_}
-use mathlib.Core.Bool.{true}
+use mathlib.Core.Bool.{true, false}
+use mathlib.Core.Logic.{⊎-elim}
 use mathlib.Core.List.{List}
 use lib.Dec.{eqb}
 use borrow.Author.Tests.{eq-eqb, ne-eqb}
 use Rattle.choice.specs.Choice.{if_then_else_}
-use Rattle.choice.proofs.Ways.{hit, miss, through}
+use Rattle.choice.proofs.Ways.{hit, miss, through, clash}
 use Rattle.queue_record.specs.Refusals.{done}
 use Rattle.queue_record.specs.declared.record.Queue.{Queue}
 use Rattle.queue_births.specs.Births.{registered, landed}
@@ -28,6 +29,7 @@ use Rattle.log_births.specs.Births.{bornNot, registerRecorded, landRecorded}
 use Rattle.log_attempts.specs.Attempts.{popRecorded, settledNot, completeRecorded, retryRecorded}
 use Rattle.log_stages.specs.Stages.{admitRecorded, endRecorded, cancelRecorded}
 use Rattle.cleanup_log.specs.Entries.{entryOf}
+use Rattle.cleanup_log.proofs.Changes.{call-changes}
 use Rattle.cleanup_log.proofs.RecordedNumbers.{birth-number, work-number, settled-number, renewed-number, told-number, cancelled-number}
 use Rattle.history.specs.Histories.{Bench, bench, Outcome, outcome, recorded, called, numberOf}
 
@@ -93,3 +95,9 @@ module _ (b : Bench) (c : Call) where
   pub goes : Put (b .log) (b .used) → entryOf (b .queue) c .refusal ≡ 0 → entryOf (b .queue) c .changed ≡ true
       → (numberOf b c ≡ done) × (called b c ≡ bench (after (b .queue) c) (b .used + 1) (written (b .log) (b .used) (flat (entryOf (b .queue) c .row))))
   goes p r h = let e = note-goes (b .log) (b .used) (entryOf (b .queue) c) p r h in (is-noted b c .0 ∙ ap (λ (n : Note). n .refusal) e, is-noted b c .1 ∙ ap (benchBy b (after (b .queue) c)) e)
+
+  -- one that changes nothing of the queue, accepted, leaves record, used count and log
+  pub quiet-stays : numberOf b c ≡ done → entryOf (b .queue) c .changed ≡ false → called b c ≡ b
+  quiet-stays h k =
+      let a = accepted-is h in
+      a .1 ∙ ⊎-elim (λ x. benches (call-changes (b .queue) c .0 k) (x .1) (x .2)) (λ x. clash (x .0) k) (note-tells (b .log) (b .used) (entryOf (b .queue) c) .1 (a .0) .1)

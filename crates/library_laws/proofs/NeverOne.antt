@@ -34,7 +34,7 @@ use Rattle.cleanup_log.proofs.RecordedNumbers.{retry-recorded-number, admit-rec
 use Rattle.queue_words.specs.Words.{word, ticketOf, queueOf, isSound}
 use Rattle.queue_words.specs.Exported.{Exported, openNumber, registerOn, landOn, popOn, completeOn, retryOn, admitOn, admitWithoutOn, endOn, cancelOn}
 use Rattle.queue_words.specs.Exported.{onRecord, toldOn, isEmptyOn, isIssuedOn, isPendingOn, isSettledOn, isCancelledOn, hasFailedOn, canRetryOn, canFinishOn, domainOn}
-use Rattle.queue_words.proofs.OnWords.{sound-on, sound-fits}
+use Rattle.queue_words.proofs.OnWords.{sound-on, sound-encodes, sound-fits}
 use Rattle.gulberzan_c.specs.ReadBack.{ReadOn, noKind, readBack, readSaid}
 use Rattle.history.specs.Histories.{numberOf}
 use Rattle.library_laws.specs.CallWords.{WordCall}
@@ -121,8 +121,8 @@ module _ (ws : List ℕ) (s : isSound ws ≡ true) where
     abbrev behind : List Ground → Call → List Ground
     behind own c = others (others (recordedOrder (length log) used own (entryOf (queueOf ws) c .changed)))
 
-    numbered : (c : WordCall) → loggedBy (session ws log used) c .call .result ≡ numberOf (from ws s log used) (callOf ws c)
-    numbered c = logged-is ws s log used c .3
+    numbered : (c : WordCall) → loggedBy (session ws log used) c .call .result ≡ numberOf (from ws (sound-encodes ws s) log used) (callOf ws c)
+    numbered c = logged-is ws (sound-encodes ws s) log used c .3
 
     logged-alone : (c : WordCall) → Unfit (loggedBy (session ws log used) c .call .result)
     logged-alone (WordCall.register n) =

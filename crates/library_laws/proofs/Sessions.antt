@@ -7,7 +7,7 @@ use native.Mathlib.Omega.{arith}
 use borrow.Author.Tests.{eqb-true, eqb-false, lt-ltb, le-ltb}
 use lib.Dec.{eqb, ltb}
 use lib.ListN.{take}
-use Rattle.choice.proofs.Ways.{hit, miss, if-by, and-left}
+use Rattle.choice.proofs.Ways.{hit, miss, if-by}
 use Rattle.queue_record.specs.Record.{Sized}
 use Rattle.queue_record.specs.Refusals.{done}
 use Rattle.queue_record.specs.WellFormed.{wellFormed}
@@ -34,9 +34,9 @@ use Rattle.log_reader.proofs.Rightly.{reads-from}
 use Rattle.log_reader.proofs.Unique.{reads-one}
 use Rattle.log_reader.specs.declared.reading.Reading.{Reading}
 use Rattle.queue_words.specs.Words.{word, ticketOf, queueOf, wordsOf, encodes, isSound}
-use Rattle.queue_words.specs.Exported.{Exported, bornSaid, popSaid, completeSaid, retrySaid, toldSaid, cancelSaid}
-use Rattle.queue_words.proofs.RoundTrip.{queue-sized, queue-again}
-use Rattle.queue_words.proofs.OnWords.{record-sound, sound-fits, sound-length}
+use Rattle.queue_words.specs.Exported.{Exported, exported, answerOf, bornSaid, popSaid, completeSaid, retrySaid, toldSaid, cancelSaid}
+use Rattle.queue_words.proofs.RoundTrip.{words-again, queue-sized, queue-again}
+use Rattle.queue_words.proofs.OnWords.{record-sound, sound-encodes, sound-fits, sound-length}
 use Rattle.gulberzan_c.specs.Recorded.{Recorded, keptSaid, onLogged, registerRecordedOn, landRecordedOn, popRecordedOn, completeRecordedOn, retryRecordedOn}
 use Rattle.gulberzan_c.specs.Recorded.{admitRecordedOn, admitWithoutRecordedOn, endRecordedOn, cancelRecordedOn}
 use Rattle.history.specs.Histories.{Bench, bench, Outcome, outcome, recorded, called, numberOf, Start, History, opens, calls, wordsWritten}
@@ -45,20 +45,20 @@ use Rattle.history.proofs.Spoken.{Stands, stands}
 use Rattle.history.proofs.Accepts.{history-read}
 use Rattle.gulberzan_c.specs.ReadBack.{ReadOn, noKind, readBack, readSaid}
 use Rattle.library_laws.specs.CallWords.{WordCall}
-use Rattle.library_laws.specs.Sessions.{Session, session, loggedBy, LibraryCall, opensScope, opensIterator, openingBy, sessionAfter, sessionAfterAll, Recorder, begins, goesOn, usedWords}
+use Rattle.library_laws.specs.Sessions.{Session, session, loggedBy, loggedTo, LibraryCall, opensScope, opensIterator, openingBy}
+use Rattle.library_laws.specs.Sessions.{sessionAfter, sessionAfterAll, Recorder, begins, goesOn, usedWords}
 use Rattle.library_laws.proofs.Sounds.{callOf, born-words, pop-words, complete-words, retry-words, told-words, cancel-words, sound-after, scope-sound, iterator-sound}
 use Rattle.library_laws.proofs.Says.{born-tells, pop-tells, complete-tells, retry-tells, told-number, cancel-tells}
 
--- ---- an exported recorded call on sound words is the bench's recorded call on the record that they encode
+-- ---- an exported recorded call on words that encode a record is the bench's recorded call on that record
 abbrev pub Matches : Recorded → Outcome → Type 0
 Matches r o = (r .call .words ≡ wordsOf (o .bench .queue)) × (r .log ≡ o .bench .log) × (r .used ≡ o .bench .used) × (r .call .result ≡ o .number)
 
-module _ (ws : List ℕ) (s : isSound ws ≡ true) (log : List ℕ) (used : ℕ) where
+module _ (ws : List ℕ) (e : encodes ws ≡ true) (log : List ℕ) (used : ℕ) where
   kept-matches : {A : Type 0} (said : A → List ℕ → Exported) (says : A → Said) → ((a : A) (vs : List ℕ) → said a vs .words ≡ vs)
       → ((a : A) (vs : List ℕ) → said a vs .result ≡ says a .number) → (given : ℕ) (k : Kept A) → Matches (onLogged ws given log used (keptSaid said k)) (outcome says k)
-  unfolding isSound
   kept-matches said says words number given k =
-      subst (λ (r : Recorded). Matches r (outcome says k)) (sym (miss _ (ap not (and-left (encodes ws) (wellFormed (queueOf ws)) s))))
+      subst (λ (r : Recorded). Matches r (outcome says k)) (sym (miss _ (ap not e)))
       (words (k .answer) _, refl, refl, number (k .answer) _)
 
   abbrev pub from : Bench
@@ -78,6 +78,34 @@ module _ (ws : List ℕ) (s : isSound ws ≡ true) (log : List ℕ) (used : ℕ)
   logged-is WordCall.end = kept-matches toldSaid toldSays told-words (λ a vs. told-number vs a) 0 (endRecorded (queueOf ws) log used)
   logged-is WordCall.cancel = kept-matches cancelSaid cancelledSays cancel-words (λ a vs. cancel-tells vs a .number) 0 (cancelRecorded (queueOf ws) log used)
 
+-- ---- a refused one leaves words, log and used rows
+sessions : {v w k l : List ℕ} {m n : ℕ} → v ≡ w → k ≡ l → m ≡ n → session v k m ≡ session w l n
+sessions e f g = rw (e, f, g)
+
+-- words that encode no record
+none-logged : (s : Session) → encodes (s .words) ≡ false → (c : WordCall) → loggedTo (loggedBy s c) ≡ s
+unfolding registerRecordedOn landRecordedOn popRecordedOn completeRecordedOn retryRecordedOn admitRecordedOn admitWithoutRecordedOn endRecordedOn cancelRecordedOn
+none-logged s e (WordCall.register n) = ap loggedTo (hit _ (ap not e))
+none-logged s e (WordCall.land n) = ap loggedTo (hit _ (ap not e))
+none-logged s e WordCall.pop = ap loggedTo (hit _ (ap not e))
+none-logged s e (WordCall.complete t o k) = ap loggedTo (hit _ (ap not e))
+none-logged s e WordCall.retry = ap loggedTo (hit _ (ap not e))
+none-logged s e (WordCall.admit t) = ap loggedTo (hit _ (ap not e))
+none-logged s e WordCall.admitWithout = ap loggedTo (hit _ (ap not e))
+none-logged s e WordCall.end = ap loggedTo (hit _ (ap not e))
+none-logged s e WordCall.cancel = ap loggedTo (hit _ (ap not e))
+
+pub logged-refused : (s : Session) (c : WordCall) → (loggedBy s c .call .result ≡ done → ⊥) → loggedTo (loggedBy s c) ≡ s
+logged-refused s c z = by (encodes (s .words)) refl
+  where
+    by : (b : Bool) → encodes (s .words) ≡ b → loggedTo (loggedBy s c) ≡ s
+    by false e = none-logged s e c
+    by true e =
+        let m = logged-is (s .words) e (s .log) (s .used) c in
+        let b : Bench = from (s .words) e (s .log) (s .used) in
+        let f : called b (callOf (s .words) c) ≡ b = refused-stays b (callOf (s .words) c) (λ n. z (m .3 ∙ n)) in
+        sessions (m .0 ∙ (ap (λ (x : Bench). wordsOf (x .queue)) f ∙ words-again (s .words) e)) (m .1 ∙ ap (λ (x : Bench). x .log) f) (m .2 ∙ ap (λ (x : Bench). x .used) f)
+
 -- ---- sound words stay sound
 -- a recorded call leaves a well formed record of whole arrays
 called-fits : (b : Bench) (c : Call) → wellFormed (b .queue) ≡ true → Sized (b .queue) → wellFormed (called b c .queue) ≡ true × Sized (called b c .queue)
@@ -91,8 +119,9 @@ called-fits b c w z = go (eqb (numberOf b c) 0) refl
 
 logged-sound : (s : Session) → isSound (s .words) ≡ true → (c : WordCall) → isSound (loggedBy s c .call .words) ≡ true
 logged-sound s h c =
-    let m = logged-is (s .words) h (s .log) (s .used) c in
-    let f = called-fits (from (s .words) h (s .log) (s .used)) (callOf (s .words) c) (sound-fits (s .words) h) (queue-sized (s .words) (sound-length (s .words) h)) in
+    let e : encodes (s .words) ≡ true = sound-encodes (s .words) h in
+    let m = logged-is (s .words) e (s .log) (s .used) c in
+    let f = called-fits (from (s .words) e (s .log) (s .used)) (callOf (s .words) c) (sound-fits (s .words) h) (queue-sized (s .words) (sound-length (s .words) h)) in
     ap isSound (m .0) ∙ record-sound _ (f .1) (f .0)
 
 -- what the reader gives is well formed, whatever the log
@@ -132,6 +161,13 @@ read-leaves s kind domain first bindings log x (readBack r l a) =
     ∙ (ap (λ (y : Reading). wordsOf (y .queue)) (reads-one o log r (readFrom (openedAs o) log) a (reads-from o log))
     ∙ ap (λ (t : Session). t .words) (sym (miss _ (le-ltb 1 kind l))))
 
+-- and nothing else of the session is moved
+pub read-steps : (s : Session) (kind domain first : ℕ) (bindings log : List ℕ) (x : Exported) → ReadOn (s .words) kind domain first bindings log x
+    → session (x .words) (s .log) (s .used) ≡ sessionAfter s (LibraryCall.reads kind domain first bindings log)
+read-steps s kind domain first bindings log x h =
+    ap (λ (ws : List ℕ). session ws (s .log) (s .used)) (read-leaves s kind domain first bindings log x h)
+    ∙ if-by (λ (u : Session). session (u .words) (s .log) (s .used) ≡ u) (ltb 1 kind) _ _ (λ _. refl) (λ _. refl)
+
 -- whatever is called, recorded or read, a queue that was opened stays sound: 1 is never said of it
 pub session-sound : (s : Session) → isSound (s .words) ≡ true → (cs : List LibraryCall) → isSound (sessionAfterAll s cs .words) ≡ true
 session-sound s h [] = h
@@ -154,7 +190,7 @@ lived o memory _ (goesOn {s} r c h) =
     let i : Stands st (l .bench) = stands st (l .bench) (l .history) in
     let sound : isSound (s .words) ≡ true = ap isSound (l .words) ∙ record-sound (l .bench .queue) (i .sized) (i .sound) in
     let e : bench (queueOf (s .words)) (s .used) (s .log) ≡ l .bench = benches (ap queueOf (l .words) ∙ queue-again (l .bench .queue) (i .sized)) (l .used) (l .log) in
-    let m = logged-is (s .words) sound (s .log) (s .used) c in
+    let m = logged-is (s .words) (sound-encodes (s .words) sound) (s .log) (s .used) c in
     let b : Bench = bench (queueOf (s .words)) (s .used) (s .log) in
     record {
       bench = called b (callOf (s .words) c);
@@ -175,10 +211,10 @@ recorder-read o memory s w r a =
       ap (λ (x : Reading). wordsOf (x .queue)) g ∙ sym (l .words),
     )
 
--- so the reader for C, lent any words for its queue, leaves the very same words there
+-- so the reader for C, lent any words for its queue, says how many rows were used, and leaves the very same words there
 pub read-back-same : (kind domain first : ℕ) (bindings memory : List ℕ) (s : Session) → kind ≤ 1 → Recorder (openingBy kind domain first bindings) memory s
-    → (ws : List ℕ) (x : Exported) → ReadOn ws kind domain first bindings (usedWords s) x → (x .result ≡ done) × (x .words ≡ s .words)
+    → (ws : List ℕ) (x : Exported) → ReadOn ws kind domain first bindings (usedWords s) x → x ≡ exported done (answerOf 1 (s .used)) (s .words)
 read-back-same kind domain first bindings memory s k w ws x (noKind l) = absurd (omega arith)
 read-back-same kind domain first bindings memory s k w ws x (readBack r l a) =
     let g = recorder-read (openingBy kind domain first bindings) memory s w r a in
-    subst (λ (y : Read). (readSaid y (wordsOf (r .queue)) .result ≡ done) × (readSaid y (wordsOf (r .queue)) .words ≡ s .words)) (sym (g .0)) (refl, g .1)
+    ap (λ (y : Read). readSaid y (wordsOf (r .queue))) (g .0) ∙ ap (exported done (answerOf 1 (s .used))) (g .1)
