@@ -90,7 +90,7 @@ enum gulberzan_result {
     GULBERZAN_BAD_NUMBER = 2,         /* the undo number is 0 */
     GULBERZAN_NO_SLOT = 3,            /* 64 tokens are used up */
     GULBERZAN_NOT_PENDING = 4,        /* land in a phase other than Pending and Stopping */
-    GULBERZAN_NO_ATTEMPT = 5,         /* attempt numbers are used up */
+    GULBERZAN_NO_ATTEMPT = 5,         /* pop: attempt numbers are used up */
     GULBERZAN_NOT_OUT = 6,            /* nothing is out, or not this ticket */
     GULBERZAN_KEPT_ON_DONE = 7,       /* Done with a kept number other than 0 */
     GULBERZAN_NO_RETRY = 8,           /* nothing has failed */

@@ -9,7 +9,7 @@ use lib.Dec.{eqb}
 use Rattle.choice.specs.Choice.{if_then_else_}
 use Rattle.stage.specs.Bindings.{sameSet}
 use Rattle.stage.specs.Phases.{isPending, isCancelled}
-use Rattle.choice.proofs.Ways.{hit, miss, pass, stop, and-left, and-right, clash}
+use Rattle.choice.proofs.Ways.{hit, miss, pass, and-left, and-right, clash}
 use Rattle.stage.proofs.Sets.{same-means, means-same}
 use Rattle.queue_record.specs.Refusals.{nothingKept}
 use Rattle.queue_record.specs.WellFormed.{wellFormed}

@@ -20,7 +20,7 @@ use Rattle.queue_record.specs.declared.record.Selection.the-variants.{Free, Of}
 use Rattle.queue_record.specs.declared.record.Queue.{Queue}
 use Rattle.queue_decisions.specs.Slots.{noMore}
 use Rattle.queue_decisions.specs.Answers.{isOut, keepsOnDone}
-use Rattle.queue_steps.specs.Attempts.{slot, retryAllowed}
+use Rattle.queue_steps.specs.Attempts.{slot}
 use Rattle.queue_questions.specs.declared.questions.Told.{Told}
 use Rattle.cleanup_queue.specs.Answers.{Said, says, toldSays}
 
