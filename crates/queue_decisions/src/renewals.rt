@@ -3,9 +3,9 @@ use crate::slots::NO_MORE;
 use crate::slots::slot_at;
 use queue_record::Selection;
 use queue_record::Ticket;
-use queue_record::refusal::NOTHING_KEPT;
 use queue_record::refusal::NO_FURTHER_ATTEMPT;
 use queue_record::refusal::NO_RETRY;
+use queue_record::refusal::NOTHING_KEPT;
 ghost use mathlib.Core.Path.{_≡_};
 ghost use Rattle.queue_decisions.specs.Renewals.{allowedBy, retryRefusal, retryDue};
 
