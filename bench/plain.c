@@ -112,12 +112,12 @@ uint64_t plain_retry(struct plain_queue *q, struct plain_ticket *ticket) {
     if (!plain_well_formed(q)) {
         return PLAIN_BROKEN;
     }
-    if (!may_retry(q)) {
-        return PLAIN_NO_RETRY;
+    uint64_t refusal = retry_refusal(q);
+    if (refusal == PLAIN_DONE) {
+        take_retry(q);
+        *ticket = q->ticket;
     }
-    take_retry(q);
-    *ticket = q->ticket;
-    return PLAIN_DONE;
+    return refusal;
 }
 
 uint64_t plain_admit(struct plain_queue *q, const uint64_t *target, size_t count, bool *yes) {
@@ -206,7 +206,7 @@ uint64_t plain_can_retry(const struct plain_queue *q, bool *yes) {
     if (!plain_well_formed(q)) {
         return PLAIN_BROKEN;
     }
-    *yes = may_retry(q);
+    *yes = retry_refusal(q) == PLAIN_DONE;
     return PLAIN_DONE;
 }
 

@@ -38,8 +38,14 @@ static inline bool cancelled(const struct plain_queue *q) {
     return q->phase == PLAIN_STOPPING || q->phase == PLAIN_CLOSED;
 }
 
-static inline bool may_retry(const struct plain_queue *q) {
-    return q->failed && q->slots[q->ticket.token] != 0 && q->next < UINT64_MAX;
+static inline uint64_t retry_refusal(const struct plain_queue *q) {
+    if (!q->failed) {
+        return PLAIN_NO_RETRY;
+    }
+    if (q->slots[q->ticket.token] == 0) {
+        return PLAIN_NOTHING_KEPT;
+    }
+    return q->next < UINT64_MAX ? PLAIN_DONE : PLAIN_NO_FURTHER_ATTEMPT;
 }
 
 /* The newest occupied slot; asked only where nothing is selected, so each occupied slot waits. */

@@ -26,7 +26,7 @@ extern "C" {
 #endif
 
 /* The first rises if a program has to be changed, the second if there is something more. */
-#define GULBERZAN_VERSION_MAJOR 1
+#define GULBERZAN_VERSION_MAJOR 2
 #define GULBERZAN_VERSION_MINOR 0
 
 /* What a compiler may know: which pointers are never null (by their places, from 1), that a call does not throw, and,
@@ -83,22 +83,24 @@ enum gulberzan_phase {
 /* Outcomes for complete. */
 enum gulberzan_outcome { GULBERZAN_OUTCOME_DONE = 0, GULBERZAN_OUTCOME_FAILED = 1 };
 
-/* Results: 0 is done, another number is the refusal. The numbers between, 10 to 13, are the groups', which have no calls here. */
+/* Results: 0 is done, another number is the refusal. The numbers between are those of groups and texts, which have no calls here. */
 enum gulberzan_result {
     GULBERZAN_OK = 0,
     GULBERZAN_BROKEN = 1,             /* no well-formed record, or the used rows don't fit the log */
     GULBERZAN_BAD_NUMBER = 2,         /* the undo number is 0 */
     GULBERZAN_NO_SLOT = 3,            /* 64 tokens are used up */
     GULBERZAN_NOT_PENDING = 4,        /* land in a phase other than Pending and Stopping */
-    GULBERZAN_NO_ATTEMPT = 5,         /* attempt numbers are used up */
+    GULBERZAN_NO_ATTEMPT = 5,         /* pop: attempt numbers are used up */
     GULBERZAN_NOT_OUT = 6,            /* nothing is out, or not this ticket */
     GULBERZAN_KEPT_ON_DONE = 7,       /* Done with a kept number other than 0 */
-    GULBERZAN_NO_RETRY = 8,           /* nothing failed, 0 was kept, or attempt numbers are used up */
+    GULBERZAN_NO_RETRY = 8,           /* nothing has failed */
     GULBERZAN_HOLLOW = 9,             /* never given */
     GULBERZAN_TOO_MANY_BINDINGS = 14, /* more than 16 */
     GULBERZAN_BAD_OUTCOME = 15,       /* neither 0 nor 1 */
     GULBERZAN_BAD_LOG = 16,           /* the reader: a row that can't be */
-    GULBERZAN_LOG_FULL = 17           /* no room for the row */
+    GULBERZAN_LOG_FULL = 17,          /* no room for the row */
+    GULBERZAN_NOTHING_KEPT = 20,      /* what failed kept 0, so it can't be retried */
+    GULBERZAN_NO_FURTHER_ATTEMPT = 21 /* what failed can't be retried: attempt numbers are used up */
 };
 
 /* The first word of an answer; what the other four are stands at each call. */
@@ -209,7 +211,7 @@ GULBERZAN_CALL(1, 2, 5) GULBERZAN_LOOK
 uint64_t gulberzan_complete(uint64_t queue[GULBERZAN_QUEUE_WORDS], const uint64_t ticket[GULBERZAN_TICKET_WORDS],
                             uint64_t outcome, uint64_t kept, uint64_t answer[GULBERZAN_ANSWER_WORDS]);
 
-/* Renews a failed ticket; case 1: domain, token, new attempt. Refused 1, 8. */
+/* Renews a failed ticket; case 1: domain, token, new attempt. Refused 1, 8, 20, 21. */
 GULBERZAN_CALL(1, 2) GULBERZAN_LOOK
 uint64_t gulberzan_retry(uint64_t queue[GULBERZAN_QUEUE_WORDS], uint64_t answer[GULBERZAN_ANSWER_WORDS]);
 

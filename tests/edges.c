@@ -7,7 +7,7 @@
 
 #include "gulberzan.h"
 
-#if GULBERZAN_VERSION_MAJOR != 1 || GULBERZAN_VERSION_MINOR < 0
+#if GULBERZAN_VERSION_MAJOR != 2 || GULBERZAN_VERSION_MINOR < 0
 #error "another version than this test is for"
 #endif
 
@@ -85,7 +85,9 @@ static void try_names(void) {
     expect_name(13, "not_drained");
     expect_name(18, "bad_text");
     expect_name(19, "no_id");
-    expect_name(20, "unknown");
+    NAMED(NOTHING_KEPT);
+    NAMED(NO_FURTHER_ATTEMPT);
+    expect_name(22, "unknown");
     expect_name(UINT64_MAX, "unknown");
 }
 

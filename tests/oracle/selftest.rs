@@ -54,7 +54,7 @@ fn marked_six_to_nine(tally: &mut Tally, mut queue: Queue) {
     queue = complete(&queue, ticket(1, 1), 0, 0).unwrap().0;
     tally.check("W8", popped(&mut queue) == Some((0, 2, 71)));
     queue = complete(&queue, ticket(0, 2), 1, 0).unwrap().0;
-    tally.check("W9 retry", retry(&queue) == Err(8));
+    tally.check("W9 retry", retry(&queue) == Err(20));
     tally.check("W9 pop", popped(&mut queue).is_none());
 }
 
@@ -62,7 +62,7 @@ fn marked_ten_to_twelve(tally: &mut Tally) {
     let mut queue = register(&open_scope(5, TOP - 1), 9).unwrap().0;
     tally.check("W10 pop", popped(&mut queue) == Some((0, TOP - 1, 9)));
     queue = complete(&queue, ticket(0, TOP - 1), 1, 9).unwrap().0;
-    tally.check("W10", retry(&queue) == Err(8));
+    tally.check("W10", retry(&queue) == Err(21));
     let (number, queue) = open_iterator(5, 0, &[4, 9]);
     let (queue, admitted) = admit(&queue, Some(&[9, 4, 9])).unwrap();
     tally.check("W11 admit", number == 0 && admitted);

@@ -26,6 +26,7 @@ pub const NAMES: &[&str] = &[
     "complete: failed keeping none",
     "retry: not failed",
     "retry: the slot is empty",
+    "retry: the slot is empty, next at the top",
     "retry: next at the top",
     "retry: to the last attempt",
     "land: Pending",
@@ -105,6 +106,7 @@ fn at_retry(queue: &Queue, names: &mut Vec<&'static str>) {
     let slot = queue.selected.map_or(0, |ticket| queue.slots[ticket.token as usize]);
     names.push(match (queue.failed, slot, queue.next) {
         (false, _, _) => "retry: not failed",
+        (true, 0, TOP) => "retry: the slot is empty, next at the top",
         (true, 0, _) => "retry: the slot is empty",
         (true, _, TOP) => "retry: next at the top",
         (true, _, next) if next == TOP - 1 => "retry: to the last attempt",

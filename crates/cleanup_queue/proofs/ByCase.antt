@@ -7,7 +7,7 @@ use borrow.Author.Tests.{eqb-true, eqb-false, leb-false, ltb-false, not-false}
 use lib.Dec.{eqb, leb, ltb}
 use Rattle.choice.proofs.Ways.{if-by}
 use Rattle.stage.specs.Phases.{isPending}
-use Rattle.queue_record.specs.Refusals.{broken, badNumber, noSlot, notPending, noAttempt, notOut, keptOnDone, noRetry, hollow, badOutcome}
+use Rattle.queue_record.specs.Refusals.{broken, badNumber, noSlot, notPending, noAttempt, notOut, keptOnDone, hollow, badOutcome}
 use Rattle.queue_record.specs.WellFormed.{wellFormed}
 use Rattle.queue_record.specs.Waiting.{occupied, others, waiting}
 use Rattle.queue_record.proofs.Fit.{ready-occupied}
@@ -22,9 +22,10 @@ use Rattle.queue_record.specs.declared.record.Queue.{Queue}
 use Rattle.queue_births.specs.Births.{refusedBirth, grown, born, bornBy, registered, landedTo, landed}
 use Rattle.queue_decisions.specs.Births.{registerRefusal, landRefusal}
 use Rattle.queue_decisions.specs.Pops.{sought, freshDue, dueBy, popDue}
-use Rattle.queue_decisions.specs.Renewals.{dueAgain, retryDue}
+use Rattle.queue_decisions.specs.Renewals.{retryDue}
 use Rattle.queue_decisions.specs.declared.pops.Due.{Due}
 use Rattle.queue_decisions.specs.declared.renewals.Renewal.{Renewal}
+use Rattle.queue_decisions.proofs.RenewalLaws.{due-cases}
 use Rattle.queue_decisions.specs.Slots.{noMore}
 use Rattle.queue_decisions.specs.Answers.{isOut, keepsOnDone, completeRefusal}
 use Rattle.queue_steps.specs.Attempts.{slot, refusedPop, poppedNothing, handed, freshTicket, poppedAs, popped, refusedComplete, answered, completedBy}
@@ -174,13 +175,11 @@ module _ (P : RetryAnswer → Type 0) (q : Queue) (refused : (n : ℕ) → (n �
   abbrev Renews : Renewal → Type 0
   Renews r = P (retriedAs q r)
 
-  by-selected : wellFormed q ≡ true → (s : Selection) → q .selection ≡ s → Renews (dueAgain (q .failed) (q .slots) (q .next) s)
-  by-selected w Free e = refused noRetry (λ z. omega arith)
-  by-selected w (Of t) e = if-by Renews (not (retryAllowed q (Of t))) _ _ (λ _. refused noRetry (λ z. omega arith)) (λ a. taken w t e (not-false _ a))
-
   pub retry-cases : P (retried q)
   unfolding retried retryDue
-  retry-cases = if-by P (not (wellFormed q)) _ _ (λ _. refused broken (λ z. omega arith)) (λ w. by-selected (not-false _ w) (q .selection) refl)
+  retry-cases =
+      if-by P (not (wellFormed q)) _ _ (λ _. refused broken (λ z. omega arith))
+      (λ w. due-cases (q .failed) (q .slots) (q .next) Renews (q .selection) refused (taken (not-false _ w)))
 
 pub retry-by : (P : RetryAnswer → Type 0) (q : Queue) → ((n : ℕ) → P (refusedRetry q n)) → AgainCase P q → P (retried q)
 retry-by P q refused = retry-cases P q (λ n _. refused n)

@@ -119,7 +119,7 @@ w9-failed : completedSays (completed lastOut (ticket 0 2) 1 0 .answer) ≡ says 
 unfolding wellFormed completed completeRefusal
 w9-failed = ap (λ (q : Queue). completedSays (completed q (ticket 0 2) 1 0 .answer)) lastOut-is
 
-w9-retry : retriedSays (retried spent .answer) ≡ says 8 []
+w9-retry : retriedSays (retried spent .answer) ≡ says 20 []
 unfolding wellFormed retried retryDue
 w9-retry = ap (λ (q : Queue). retriedSays (retried q .answer)) spent-is
 

@@ -9,9 +9,9 @@ use lib.Dec.{eqb}
 use Rattle.choice.specs.Choice.{if_then_else_}
 use Rattle.stage.specs.Bindings.{sameSet}
 use Rattle.stage.specs.Phases.{isPending, isCancelled}
-use Rattle.choice.proofs.Ways.{hit, miss, pass, stop, and-left, and-right, clash}
+use Rattle.choice.proofs.Ways.{hit, miss, pass, and-left, and-right, clash}
 use Rattle.stage.proofs.Sets.{same-means, means-same}
-use Rattle.queue_record.specs.Refusals.{noRetry}
+use Rattle.queue_record.specs.Refusals.{nothingKept}
 use Rattle.queue_record.specs.WellFormed.{wellFormed}
 use Rattle.queue_record.specs.Openings.{scopeOf, iteratorOf}
 use Rattle.queue_record.specs.Waiting.{waiting}
@@ -20,9 +20,9 @@ use Rattle.queue_record.specs.declared.record.Selection.{Selection}
 use Rattle.queue_record.specs.declared.record.Selection.the-variants.{Free, Of}
 use Rattle.queue_record.specs.declared.record.Queue.{Queue}
 use Rattle.queue_record.proofs.Fit.{failed-not-issued}
-use Rattle.queue_steps.specs.Attempts.{slot, poppedNothing, poppedAs, popped, refusedRetry, retriedAs, retried}
+use Rattle.queue_steps.specs.Attempts.{slot, poppedNothing, poppedAs, popped, refusedRetry, renewed, retriedAs, retried}
 use Rattle.queue_decisions.specs.Pops.{popDue}
-use Rattle.queue_decisions.specs.Renewals.{dueAgain, retryDue}
+use Rattle.queue_decisions.specs.Renewals.{renewedUnless, dueAgain, retryDue}
 use Rattle.queue_questions.specs.Questions.{yesOrNo, asked, committed, finishable, canFinishTold, nothingLeft, isEmptyTold}
 use Rattle.queue_questions.specs.declared.questions.Told.the-variants.{Yes, No, Refused}
 use Rattle.cleanup_queue.specs.Promises.{Finishable}
@@ -89,6 +89,8 @@ module _ (q : Queue) (t : Ticket) (h : wellFormed q ≡ true) (e : q .selection 
   failed-not-empty = yes-asked q (nothingLeft (q .selection) (waiting q)) h ∙ ap (λ (s : Selection). yesOrNo (nothingLeft s (waiting q))) e
 
   -- and once it is emptied, no retry either
-  pub emptied-no-retry : slot q (t .token) ≡ 0 → retried q ≡ refusedRetry q noRetry
+  pub emptied-no-retry : slot q (t .token) ≡ 0 → retried q ≡ refusedRetry q nothingKept
   unfolding retried retryDue
-  emptied-no-retry z = miss _ (ap not h) ∙ ap (retriedAs q) (ap (dueAgain (q .failed) (q .slots) (q .next)) e ∙ hit _ (ap not (pass _ f ∙ stop _ (ap (λ (n : ℕ). not (eqb n 0)) z))))
+  emptied-no-retry z =
+      miss _ (ap not h) ∙ ap (retriedAs q) (ap (dueAgain (q .failed) (q .slots) (q .next)) e
+      ∙ ap (λ (n : ℕ). renewedUnless n (renewed q t)) (miss _ (ap not f) ∙ hit _ (ap (λ (n : ℕ). eqb n 0) z)))

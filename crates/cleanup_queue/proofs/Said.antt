@@ -8,13 +8,14 @@ use lib.Dec.{eqb, leb, ltb}
 use lib.ListN.{length}
 use Rattle.choice.specs.Choice.{if_then_else_, bit}
 use Rattle.stage.specs.Phases.{isPending, isSettled, isCancelled}
-use Rattle.choice.proofs.Ways.{miss, if-by}
-use Rattle.queue_record.specs.Refusals.{noAttempt, noRetry, hollow}
+use Rattle.choice.proofs.Ways.{hit, miss, if-by}
+use Rattle.queue_record.specs.Refusals.{done, broken, noAttempt, noRetry, hollow, nothingKept, noFurtherAttempt}
 use Rattle.queue_record.specs.WellFormed.{wellFormed}
 use Rattle.queue_record.specs.Waiting.{waiting}
 use Rattle.queue_record.specs.Newest.{newest, isThere}
 use Rattle.queue_record.specs.Openings.{Opening, headingOf, openingOf, blank, scopeOpened, iteratorOpened, openedBy, openedAs}
 use Rattle.queue_record.proofs.Opened.{opened-refused}
+use Rattle.queue_record.proofs.Fit.{free-no-marks}
 use Rattle.queue_record.specs.declared.record.Kind.{Kind}
 use Rattle.queue_record.specs.declared.record.Kind.the-variants.{Scope, Iterator}
 use Rattle.queue_record.specs.declared.openings.Opened.{Opened}
@@ -28,12 +29,12 @@ use Rattle.queue_record.specs.declared.record.Queue.{Queue}
 use Rattle.queue_births.specs.Births.{grown, bornBy, registered, landedTo, landed}
 use Rattle.queue_decisions.specs.Births.{registerRefusal, landRefusal}
 use Rattle.queue_decisions.specs.Pops.{sought, freshDue, dueBy, popDue}
-use Rattle.queue_decisions.specs.Renewals.{dueAgain, retryDue}
+use Rattle.queue_decisions.specs.Renewals.{renewedUnless, dueAgain, retryDue}
 use Rattle.queue_decisions.specs.declared.pops.Due.{Due}
 use Rattle.queue_decisions.specs.declared.renewals.Renewal.{Renewal}
 use Rattle.queue_decisions.specs.Slots.{noMore}
 use Rattle.queue_decisions.specs.Answers.{isOut, keepsOnDone, completeRefusal}
-use Rattle.queue_steps.specs.Attempts.{slot, poppedAs, popped, completedBy, completed, retryAllowed, retriedAs, retried}
+use Rattle.queue_steps.specs.Attempts.{slot, poppedAs, popped, completedBy, completed, retryAllowed, refusedRetry, renewed, dueAgainIn, retriedAs, retried}
 use Rattle.queue_births.specs.declared.births.Registered.{Registered}
 use Rattle.queue_births.specs.declared.births.RegisterAnswer.{RegisterAnswer}
 use Rattle.queue_steps.specs.declared.attempts.Popped.{Popped}
@@ -51,8 +52,8 @@ use Rattle.queue_stages.specs.declared.stages.StageAnswer.{StageAnswer}
 use Rattle.queue_stages.specs.declared.stages.CancelAnswer.{CancelAnswer}
 use Rattle.queue_stages.specs.declared.stages.Cancelled.{Cancelled}
 use Rattle.cleanup_queue.specs.Answers.{Said, says, openedSays, registeredSays, poppedSays, completedSays, retriedSays, toldSays, cancelledSays, domainSays}
-use Rattle.cleanup_queue.specs.Orders.{due, firstSaid, RefusedAs, openingOrder, registerOrder, landOrder, freshToken, chosenToken, isHollow}
-use Rattle.cleanup_queue.specs.Orders.{popOrder, freshValues, workValues, completeOrder, retryOrder, renewedValues, brokenOnly, Tells}
+use Rattle.cleanup_queue.specs.Orders.{Ground, due, firstSaid, RefusedAs, openingOrder, registerOrder, landOrder, freshToken, chosenToken, isHollow}
+use Rattle.cleanup_queue.specs.Orders.{popOrder, freshValues, workValues, completeOrder, keptIn, retryOrder, renewedValues, brokenOnly, Tells}
 use Rattle.cleanup_queue.proofs.ByCase.{all-occupied, register-cases, register-by, land-cases, land-by, pop-cases, pop-by, complete-cases, complete-by, retry-cases, retry-by}
 use Rattle.cleanup_queue.proofs.Upstream.{admit-answers, end-answers}
 
@@ -193,7 +194,7 @@ module _ (q : Queue) (t : Ticket) (outcome kept : ℕ) where
 module _ (q : Queue) where
   pub retry-said : retriedSays (retried q .answer) ≡ firstSaid (retryOrder q) [] (renewedValues q (q .selection))
   unfolding retried retryDue
-  retry-said = due-if renewing (not (wellFormed q)) _ _ refl (allowed (q .selection))
+  retry-said = by-check (wellFormed q) refl
     where
       renewing : RetryAnswer → Said
       renewing r = retriedSays (r .answer)
@@ -201,9 +202,27 @@ module _ (q : Queue) where
       by : Renewal → Said
       by r = renewing (retriedAs q r)
 
-      allowed : (s : Selection) → by (dueAgain (q .failed) (q .slots) (q .next) s) ≡ firstSaid (due noRetry (not (retryAllowed q s)) ∷ []) [] (renewedValues q s)
-      allowed Free = refl
-      allowed (Of t) = due-if by (not (retryAllowed q (Of t))) _ _ refl refl
+      causes : (failed empty over : Bool) → List Ground
+      causes failed empty over = due noRetry (not failed) ∷ due nothingKept empty ∷ due noFurtherAttempt over ∷ []
+
+      -- each of the three where it is met, and the ticket where none is
+      in-order : (t : Ticket) (failed empty over : Bool)
+          → by (renewedUnless (if not failed then noRetry else if empty then nothingKept else if over then noFurtherAttempt else done) (renewed q t))
+          ≡ firstSaid (causes failed empty over) [] (renewedValues q (Of t))
+      in-order t false empty over = refl
+      in-order t true true over = refl
+      in-order t true false true = refl
+      in-order t true false false = refl
+
+      by-own : wellFormed q ≡ true → (s : Selection) → q .selection ≡ s
+          → by (dueAgain (q .failed) (q .slots) (q .next) s) ≡ firstSaid (causes (q .failed) (eqb (keptIn q s) 0) (leb noMore (q .next))) [] (renewedValues q s)
+      by-own w Free e = sym (hit _ (ap not (free-no-marks q w e .0)))
+      by-own w (Of t) e = in-order t (q .failed) (eqb (slot q (t .token)) 0) (leb noMore (q .next))
+
+      by-check : (sound : Bool) → wellFormed q ≡ sound → renewing (if not sound then refusedRetry q broken else retriedAs q (dueAgainIn q))
+          ≡ firstSaid (due broken (not sound) ∷ causes (q .failed) (eqb (keptIn q (q .selection)) 0) (leb noMore (q .next))) [] (renewedValues q (q .selection))
+      by-check true w = by-own w (q .selection) refl
+      by-check false w = refl
 
   pub retry-refused : RefusedAs q [] (retriedSays (retried q .answer)) (retried q .queue)
   retry-refused = retry-by (λ (r : RetryAnswer). RefusedAs q [] (retriedSays (r .answer)) (r .queue)) q (λ _ _. (refl, refl)) (λ _ _ _ _ z. absurd (z refl))

@@ -33,7 +33,8 @@ use Rattle.queue_record.proofs.Fit.{fit, free-no-marks, issued-not-failed, fail
 use Rattle.queue_record.proofs.Waiting.{by-first, none-occupied}
 use Rattle.queue_births.specs.Births.{grown, bornBy, registered, landedTo, landed}
 use Rattle.queue_decisions.specs.Births.{registerRefusal, landRefusal}
-use Rattle.queue_decisions.specs.Renewals.{dueAgain, retryDue}
+use Rattle.queue_decisions.specs.Renewals.{retryDue}
+use Rattle.queue_decisions.proofs.RenewalLaws.{due-own}
 use Rattle.queue_decisions.specs.Answers.{sameTicket, selects, isOut, keepsOnDone, completeRefusal}
 use Rattle.queue_steps.specs.Attempts.{slot, issuedTo, freshTicket, popped, refusedComplete, completedBy, completed, retryAllowed, renewed, retriedAs, retried}
 use Rattle.queue_births.specs.declared.births.Registered.the-variants.{Token}
@@ -406,7 +407,7 @@ module _ (q : Queue) where
       go (Of s) e a = (
         renewed q s,
         ap (λ (r : RetryAnswer). r .answer) (miss _ (ap not (asked-yes q (retryAllowed q (q .selection)) h .0))
-            ∙ ap (retriedAs q) (ap (dueAgain (q .failed) (q .slots) (q .next)) e ∙ miss _ (ap not a))),
+            ∙ ap (retriedAs q) (due-own (q .failed) (q .slots) (q .next) (q .selection) s e (ap (retryAllowed q) e ∙ a))),
       )
 
   -- Where retry answers a ticket, can_retry says yes (Q220).

@@ -92,11 +92,11 @@ table =
     row 8 (completedSays (completed outAgain (ticket 1 1) 0 0 .answer)) (says 0 []) ∷
     row 8 (poppedSays (popped last .answer)) (says 0 (0 ∷ 0 ∷ 2 ∷ 71 ∷ [])) ∷
     row 9 (completedSays (completed lastOut (ticket 0 2) 1 0 .answer)) (says 0 []) ∷
-    row 9 (retriedSays (retried spent .answer)) (says 8 []) ∷
+    row 9 (retriedSays (retried spent .answer)) (says 20 []) ∷
     row 9 (poppedSays (popped spent .answer)) nothing ∷
     row 10 (poppedSays (popped high .answer)) (says 0 (0 ∷ 0 ∷ 18446744073709551614 ∷ 9 ∷ [])) ∷
     row 10 (completedSays (completed highOut (ticket 0 18446744073709551614) 1 9 .answer)) (says 0 []) ∷
-    row 10 (retriedSays (retried atTheTop .answer)) (says 8 []) ∷
+    row 10 (retriedSays (retried atTheTop .answer)) (says 21 []) ∷
     row 11 (openedSays (iteratorOpened 0 0 (4 ∷ 9 ∷ []) .answer)) (says 0 []) ∷
     row 11 (toldSays (admitted iterator (matches iterator (9 ∷ 4 ∷ 9 ∷ [])) .answer)) (says 0 (1 ∷ [])) ∷
     row 11 (registeredSays (landed pending 30 .answer)) (says 0 (0 ∷ [])) ∷

@@ -7,7 +7,7 @@ use lib.Dec.{eqb, leb, ltb}
 use lib.ListN.{length}
 use Rattle.choice.specs.Choice.{if_then_else_, bit}
 use Rattle.stage.specs.Phases.{isPending}
-use Rattle.queue_record.specs.Refusals.{done, broken, badNumber, noSlot, notPending, noAttempt, notOut, keptOnDone, noRetry, hollow, badOutcome, tooManyBindings}
+use Rattle.queue_record.specs.Refusals.{done, broken, badNumber, noSlot, notPending, noAttempt, notOut, keptOnDone, noRetry, hollow, badOutcome, tooManyBindings, nothingKept, noFurtherAttempt}
 use Rattle.queue_record.specs.Openings.{Opening, keptBindings}
 use Rattle.queue_record.specs.WellFormed.{wellFormed}
 use Rattle.queue_record.specs.Waiting.{waiting}
@@ -20,7 +20,7 @@ use Rattle.queue_record.specs.declared.record.Selection.the-variants.{Free, Of}
 use Rattle.queue_record.specs.declared.record.Queue.{Queue}
 use Rattle.queue_decisions.specs.Slots.{noMore}
 use Rattle.queue_decisions.specs.Answers.{isOut, keepsOnDone}
-use Rattle.queue_steps.specs.Attempts.{slot, retryAllowed}
+use Rattle.queue_steps.specs.Attempts.{slot}
 use Rattle.queue_questions.specs.declared.questions.Told.{Told}
 use Rattle.cleanup_queue.specs.Answers.{Said, says, toldSays}
 
@@ -114,11 +114,18 @@ completeOrder q t outcome kept =
     due keptOnDone (keepsOnDone outcome kept) ∷
     []
 
--- retry: 1, 8
+-- what the selected ticket's slot holds
+abbrev pub keptIn : Queue → Selection → ℕ
+keptIn q Free = 0
+keptIn q (Of t) = slot q (t .token)
+
+-- retry: 1, 8, 20, 21
 abbrev pub retryOrder : Queue → List Ground
 retryOrder q =
     due broken (not (wellFormed q)) ∷
-    due noRetry (not (retryAllowed q (q .selection))) ∷
+    due noRetry (not (q .failed)) ∷
+    due nothingKept (eqb (keptIn q (q .selection)) 0) ∷
+    due noFurtherAttempt (leb noMore (q .next)) ∷
     []
 
 -- R55: the renewed ticket, as values

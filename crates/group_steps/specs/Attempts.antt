@@ -49,6 +49,6 @@ abbrev pub retriedAt : Groups → Spot → GroupRetryAnswer
 retriedAt g (Spot.Refused refusal) = record { answer = Retried.Refused refusal; groups = g }
 retriedAt g (Spot.At i) = renewedAt g i (retried (queueAt g i))
 
--- retry: 1, 10, then 8
+-- retry: 1, 10, then as the queue's
 unfoldable pub retriedIn : Groups → ℕ → GroupRetryAnswer
 retriedIn g id = retriedAt g (spotOf g id)

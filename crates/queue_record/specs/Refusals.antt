@@ -60,3 +60,9 @@ badText = 18
 
 abbrev pub noId : ℕ
 noId = 19
+
+abbrev pub nothingKept : ℕ
+nothingKept = 20
+
+abbrev pub noFurtherAttempt : ℕ
+noFurtherAttempt = 21

@@ -36,3 +36,7 @@ pub const LOG_FULL: u64 = 17;
 pub const BAD_TEXT: u64 = 18;
 
 pub const NO_ID: u64 = 19;
+
+pub const NOTHING_KEPT: u64 = 20;
+
+pub const NO_FURTHER_ATTEMPT: u64 = 21;

@@ -124,7 +124,7 @@ retriedAs q (Renewal.Of t) = again q t
 abbrev pub dueAgainIn : Queue → Renewal
 dueAgainIn q = retryDue (q .failed) (q .selection) (q .slots) (q .next)
 
--- R54, R55. Order 1, 8
+-- R54, R55. Order 1, 8, 20, 21
 unfoldable pub retried : Queue → RetryAnswer
 retried q =
     if not (wellFormed q) then refusedRetry q broken else

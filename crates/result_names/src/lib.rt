@@ -6,7 +6,7 @@ ghost use Rattle.result_names.specs.Names.{resultText, resultLength};
 pub type Text = [u8; 24];
 
 // By their numbers: done, then the refusals.
-const NAMES: [[u8; 24]; 20] = [
+const NAMES: [[u8; 24]; 22] = [
     *b"ok\0\0\0\0\0\0\0\0\0\0\0\0\0\0\0\0\0\0\0\0\0\0",
     *b"broken\0\0\0\0\0\0\0\0\0\0\0\0\0\0\0\0\0\0",
     *b"bad_number\0\0\0\0\0\0\0\0\0\0\0\0\0\0",
@@ -27,9 +27,11 @@ const NAMES: [[u8; 24]; 20] = [
     *b"log_full\0\0\0\0\0\0\0\0\0\0\0\0\0\0\0\0",
     *b"bad_text\0\0\0\0\0\0\0\0\0\0\0\0\0\0\0\0",
     *b"no_id\0\0\0\0\0\0\0\0\0\0\0\0\0\0\0\0\0\0\0",
+    *b"nothing_kept\0\0\0\0\0\0\0\0\0\0\0\0",
+    *b"no_further_attempt\0\0\0\0\0\0",
 ];
 
-const LENGTHS: [u64; 20] = [
+const LENGTHS: [u64; 22] = [
     2,
     6,
     10,
@@ -50,13 +52,15 @@ const LENGTHS: [u64; 20] = [
     8,
     8,
     5,
+    12,
+    18,
 ];
 
 // The name in its places; a number that is no result is unknown.
 pub fn text_of(number: u64) -> Text
     ensures { λ r. ⌜ r ≡ resultText number ⌝ }
 {
-    if number < 20 {
+    if number < 22 {
         return NAMES[number as usize];
     }
     *b"unknown\0\0\0\0\0\0\0\0\0\0\0\0\0\0\0\0\0"
@@ -66,7 +70,7 @@ pub fn text_of(number: u64) -> Text
 pub fn length_of(number: u64) -> u64
     ensures { λ r. ⌜ r ≡ resultLength number ⌝ }
 {
-    if number < 20 {
+    if number < 22 {
         return LENGTHS[number as usize];
     }
     7
