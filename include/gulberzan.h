@@ -180,7 +180,7 @@ enum gulberzan_row {
 GULBERZAN_CALL(1)
 uint64_t gulberzan_open_scope(uint64_t queue[GULBERZAN_QUEUE_WORDS], uint64_t domain, uint64_t first_attempt);
 
-/* Opens an iterator with count bindings; more than 16 get 14 and leave the blank queue: a scope of domain 0, first attempt 0. */
+/* Opens an iterator with count bindings; more than 16 get 14 and leave what gulberzan_open_scope(queue, 0, 0) leaves, the blank queue. */
 GULBERZAN_CALL(1) GULBERZAN_LOOK
 uint64_t gulberzan_open_iterator(uint64_t queue[GULBERZAN_QUEUE_WORDS], uint64_t domain, uint64_t first_attempt,
                                  const uint64_t *bindings, size_t count);

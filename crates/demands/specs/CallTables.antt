@@ -274,7 +274,7 @@ toldById g id asksRetry = toldSays (canRetryIn g id)
 toldById g id (asksFinish target) = toldSays (canFinishIn g id target)
 toldById g id asksDomain = domainSays (domainIn g id)
 
--- a yes-or-no question to the whole record: contains, is_empty, has_pending, has_issued, has_failed, can_retry_all, can_finish, can_seal, can_add
+-- a yes-or-no question to the whole record; the case says what is asked, and the table behind it which call asks that
 pub data RecordQuestion : Type 0 where
   asksContains : ℕ → RecordQuestion
   asksNoneLive : RecordQuestion
