@@ -21,7 +21,7 @@ use Rattle.queue_record.specs.declared.record.Selection.the-variants.{Free, Of}
 use Rattle.queue_record.specs.declared.record.Queue.{Queue}
 use Rattle.queue_births.specs.Births.{refusedBirth, grown, born, bornBy, registered, landedTo, landed}
 use Rattle.queue_decisions.specs.Births.{registerRefusal, landRefusal}
-use Rattle.queue_decisions.specs.Pops.{sought, freshDue, dueBy, popDue}
+use Rattle.queue_decisions.specs.Pops.{sought, numberDue, freshDue, dueBy, popDue}
 use Rattle.queue_decisions.specs.Renewals.{retryDue}
 use Rattle.queue_decisions.specs.declared.pops.Due.{Due}
 use Rattle.queue_decisions.specs.declared.renewals.Renewal.{Renewal}
@@ -102,6 +102,13 @@ FreshCase P q =
 abbrev pub ReadyCase : (PopAnswer → Type 0) → Queue → Type 0
 ReadyCase P q = Popping q → (t : Ticket) → q .selection ≡ Of t → (slot q (t .token) ≡ 0 → ⊥) → P (handed q t (slot q (t .token)) (q .next))
 
+-- what is due where no mark stands: by what was found where nothing is selected, and by what is selected
+abbrev pub freshIn : Queue → Found → Due
+freshIn q found = freshDue found (numberDue Free found (q .slots)) (q .domain) (q .next)
+
+abbrev pub unmarkedIn : Queue → Selection → Due
+unmarkedIn q s = dueBy (sought s (q .slots)) (numberDue s (sought s (q .slots)) (q .slots)) (q .domain) (q .next) s
+
 -- pop, whose refusals are never 9
 module _ (P : PopAnswer → Type 0) (q : Queue) (refused : (n : ℕ) → (n ≡ hollow → ⊥) → (n ≡ 0 → ⊥) → P (refusedPop q n))
     (idle : P (poppedNothing q)) (fresh : FreshCase P q) (ready : ReadyCase P q) where
@@ -109,14 +116,14 @@ module _ (P : PopAnswer → Type 0) (q : Queue) (refused : (n : ℕ) → (n ≡ 
   abbrev D : Due → Type 0
   D d = P (poppedAs q d)
 
-  by-found : Popping q → q .selection ≡ Free → (f : Found) → newest (waiting q) ≡ f → D (freshDue f (q .slots) (q .domain) (q .next))
+  by-found : Popping q → q .selection ≡ Free → (f : Found) → newest (waiting q) ≡ f → D (freshIn q f)
   by-found p e Missing n = idle
   by-found p e (At token) n =
       if-by D (eqb (slot q token) 0) _ _ (λ z. absurd (chosen-full q e token n (eqb-true _ _ z))) (λ z.
       if-by D (leb noMore (q .next)) _ _ (λ _. refused noAttempt (λ h. omega arith) (λ h. omega arith)) (λ l.
       fresh p e token n (eqb-false _ _ z) (leb-false _ _ l)))
 
-  by-selection : Popping q → (s : Selection) → q .selection ≡ s → D (dueBy (sought s (q .slots)) (q .slots) (q .domain) (q .next) s)
+  by-selection : Popping q → (s : Selection) → q .selection ≡ s → D (unmarkedIn q s)
   by-selection p Free e = by-found p e (newest (occupied 0 (q .slots))) (ap newest (all-occupied q e))
   by-selection p (Of t) e =
       if-by D (eqb (slot q (t .token)) 0) _ _ (λ z. absurd (ready-occupied q t (p .sound) e (p .issued) (p .failed) (eqb-true _ _ z))) (λ z. ready p t e (eqb-false _ _ z))

@@ -23,14 +23,14 @@ use Rattle.queue_record.proofs.Fit.{ready-occupied}
 use Rattle.queue_record.proofs.Last.{newest-none, newest-last}
 use Rattle.queue_decisions.specs.Slots.{noMore}
 use Rattle.queue_steps.specs.Attempts.{slot, refusedPop, freshTicket, poppedAs, popped}
-use Rattle.queue_decisions.specs.Pops.{sought, freshDue, dueBy, popDue}
+use Rattle.queue_decisions.specs.Pops.{popDue}
 use Rattle.queue_decisions.specs.declared.pops.Due.{Due}
 use Rattle.queue_steps.specs.declared.attempts.Popped.{Popped}
 use Rattle.queue_steps.specs.declared.attempts.Popped.the-variants.{Work}
 use Rattle.queue_steps.specs.declared.attempts.PopAnswer.{PopAnswer}
 use Rattle.queue_questions.proofs.Left.{newest-left}
 use Rattle.cleanup_queue.specs.Promises.{isNone, handsOut, mayHandOut, HandedOut}
-use Rattle.cleanup_queue.proofs.ByCase.{all-occupied, chosen-full, Popping, pop-by, work-parts}
+use Rattle.cleanup_queue.proofs.ByCase.{all-occupied, chosen-full, freshIn, unmarkedIn, Popping, pop-by, work-parts}
 
 -- ---- exactly when
 module _ (q : Queue) where
@@ -43,7 +43,7 @@ module _ (q : Queue) where
   hands d = handsOut (poppedAs q d .answer)
 
   fresh-hands : q .selection ≡ Free → (f : Found) → newest (waiting q) ≡ f
-      → handsOut (poppedAs q (freshDue f (q .slots) (q .domain) (q .next)) .answer) ≡ (not (isNone (waiting q)) && ltb (q .next) noMore)
+      → handsOut (poppedAs q (freshIn q f) .answer) ≡ (not (isNone (waiting q)) && ltb (q .next) noMore)
   fresh-hands e Missing n = sym (stop _ (ap (λ (ks : List ℕ). not (isNone ks)) (newest-none (waiting q) n)))
   fresh-hands e (At token) n =
       ap hands (miss _ (ne-eqb (slot q token) 0 (chosen-full q e token n)))
@@ -53,7 +53,7 @@ module _ (q : Queue) where
       room true h = sym (le-ltb (q .next) noMore (leb-true noMore (q .next) h))
       room false h = sym (lt-ltb (q .next) noMore (leb-false noMore (q .next) h))
 
-  by-hands : Popping q → (s : Selection) → q .selection ≡ s → hands (dueBy (sought s (q .slots)) (q .slots) (q .domain) (q .next) s) ≡ rest s (waiting q)
+  by-hands : Popping q → (s : Selection) → q .selection ≡ s → hands (unmarkedIn q s) ≡ rest s (waiting q)
   by-hands p Free e = fresh-hands e (newest (occupied 0 (q .slots))) (ap newest (all-occupied q e))
   by-hands p (Of t) e = ap hands (miss _ (ne-eqb (slot q (t .token)) 0 (ready-occupied q t (p .sound) e (p .issued) (p .failed))))
 
@@ -64,7 +64,7 @@ module _ (q : Queue) where
       go : (w : Bool) → wellFormed q ≡ w → (i : Bool) → q .issued ≡ i → (f : Bool) → q .failed ≡ f
           → handsOut ((if not w then refusedPop q broken
           else poppedAs q (if i then Due.Nothing else if f then Due.Nothing
-          else dueBy (sought (q .selection) (q .slots)) (q .slots) (q .domain) (q .next) (q .selection))) .answer)
+          else unmarkedIn q (q .selection))) .answer)
           ≡ (w && (not i && (not f && rest (q .selection) (waiting q))))
       go false e i h f k = refl
       go true e true h f k = refl

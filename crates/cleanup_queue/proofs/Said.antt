@@ -28,7 +28,7 @@ use Rattle.queue_record.specs.declared.record.Selection.the-variants.{Free, Of}
 use Rattle.queue_record.specs.declared.record.Queue.{Queue}
 use Rattle.queue_births.specs.Births.{grown, bornBy, registered, landedTo, landed}
 use Rattle.queue_decisions.specs.Births.{registerRefusal, landRefusal}
-use Rattle.queue_decisions.specs.Pops.{sought, freshDue, dueBy, popDue}
+use Rattle.queue_decisions.specs.Pops.{popDue}
 use Rattle.queue_decisions.specs.Renewals.{renewedUnless, dueAgain, retryDue}
 use Rattle.queue_decisions.specs.declared.pops.Due.{Due}
 use Rattle.queue_decisions.specs.declared.renewals.Renewal.{Renewal}
@@ -54,7 +54,8 @@ use Rattle.queue_stages.specs.declared.stages.Cancelled.{Cancelled}
 use Rattle.cleanup_queue.specs.Answers.{Said, says, openedSays, registeredSays, poppedSays, completedSays, retriedSays, toldSays, cancelledSays, domainSays}
 use Rattle.cleanup_queue.specs.Orders.{Ground, due, firstSaid, RefusedAs, openingOrder, registerOrder, landOrder, freshToken, chosenToken, isHollow}
 use Rattle.cleanup_queue.specs.Orders.{popOrder, freshValues, workValues, completeOrder, keptIn, retryOrder, renewedValues, brokenOnly, Tells}
-use Rattle.cleanup_queue.proofs.ByCase.{all-occupied, register-cases, register-by, land-cases, land-by, pop-cases, pop-by, complete-cases, complete-by, retry-cases, retry-by}
+use Rattle.cleanup_queue.proofs.ByCase.{all-occupied, freshIn, unmarkedIn}
+use Rattle.cleanup_queue.proofs.ByCase.{register-cases, register-by, land-cases, land-by, pop-cases, pop-by, complete-cases, complete-by, retry-cases, retry-by}
 use Rattle.cleanup_queue.proofs.Upstream.{admit-answers, end-answers}
 
 -- one test more in front: what it refuses with is said exactly if it holds
@@ -136,28 +137,27 @@ module _ (q : Queue) where
   abbrev takenAs : Due → Said
   takenAs d = taken (poppedAs q d)
 
-  fresh-said : (f : Found) → takenAs (freshDue f (q .slots) (q .domain) (q .next)) ≡ firstSaid (due hollow (isHollow q f) ∷ due noAttempt (isThere f && leb noMore (q .next)) ∷ []) [] (freshValues q f)
+  fresh-said : (f : Found) → takenAs (freshIn q f) ≡ firstSaid (due hollow (isHollow q f) ∷ due noAttempt (isThere f && leb noMore (q .next)) ∷ []) [] (freshValues q f)
   fresh-said Missing = refl
   fresh-said (At k) = due-if takenAs (eqb (slot q k) 0) _ _ refl (due-if takenAs (leb noMore (q .next)) _ _ refl refl)
 
   by-said : (s : Selection) → q .selection ≡ s
-      → takenAs (dueBy (sought s (q .slots)) (q .slots) (q .domain) (q .next) s)
+      → takenAs (unmarkedIn q s)
       ≡ firstSaid (due hollow (isHollow q (chosenToken false false s (waiting q)))
       ∷ due noAttempt (isThere (freshToken false false s (waiting q)) && leb noMore (q .next)) ∷ []) [] (workValues q false false s)
-  by-said Free e = ap (λ (ks : List ℕ). takenAs (freshDue (newest ks) (q .slots) (q .domain) (q .next))) (sym (all-occupied q e)) ∙ fresh-said (newest (waiting q))
+  by-said Free e = ap (λ (ks : List ℕ). takenAs (freshIn q (newest ks))) (sym (all-occupied q e)) ∙ fresh-said (newest (waiting q))
   by-said (Of t) e = due-if takenAs (eqb (slot q (t .token)) 0) _ _ refl refl
 
   -- while something is issued or failed nothing is due
-  idle-said : (i f : Bool) → takenAs (popDue i f (q .selection) (sought (q .selection) (q .slots)) (q .slots) (q .domain) (q .next))
+  idle-said : (i f : Bool) → takenAs (if i then Due.Nothing else if f then Due.Nothing else unmarkedIn q (q .selection))
       ≡ firstSaid (due hollow (isHollow q (chosenToken i f (q .selection) (waiting q)))
       ∷ due noAttempt (isThere (freshToken i f (q .selection) (waiting q)) && leb noMore (q .next)) ∷ []) [] (workValues q i f (q .selection))
-  unfolding popDue
   idle-said true f = refl
   idle-said false true = refl
   idle-said false false = by-said (q .selection) refl
 
   pub pop-said : poppedSays (popped q .answer) ≡ firstSaid (popOrder q) [] (workValues q (q .issued) (q .failed) (q .selection))
-  unfolding popped
+  unfolding popped popDue
   pop-said = due-if taken (not (wellFormed q)) _ _ refl (idle-said (q .issued) (q .failed))
 
   pub pop-refused : RefusedAs q [] (poppedSays (popped q .answer)) (popped q .queue)

@@ -16,7 +16,7 @@ use Rattle.queue_record.specs.declared.record.Selection.the-variants.{Free, Of}
 use Rattle.queue_record.specs.declared.search.Found.{Found}
 use Rattle.queue_record.specs.declared.search.Found.the-variants.{At, Missing}
 use Rattle.queue_record.proofs.Last.{newest-below}
-use Rattle.queue_decisions.specs.Slots.{noMore, slotIn}
+use Rattle.queue_decisions.specs.Slots.{noMore}
 use Rattle.queue_decisions.specs.Pops.{sought, isMarked, unless, freshOf, freshDue, dueBy, popDue}
 use Rattle.queue_decisions.specs.declared.pops.Due.{Due}
 
@@ -29,7 +29,13 @@ pub marks-once : (issued failed : Bool) (d : Due) → (if issued then Due.Nothin
 marks-once true failed d = refl
 marks-once false failed d = refl
 
-module _ (slots : List ℕ) (domain next : ℕ) (t : Ticket) (number coming : ℕ) where
+-- what was found is one of the slots
+pub sought-below : (s : Selection) (slots : List ℕ) (token : ℕ) → sought s slots ≡ At token → token < length slots
+sought-below Free slots token e = newest-below slots token e
+sought-below (Of t) slots token e = let z : _≡_ {A = ℕ} 0 1 = cc in absurd (omega arith)
+
+-- so is what is due, whatever number stands there
+module _ (slots : List ℕ) (held domain next : ℕ) (t : Ticket) (number coming : ℕ) where
   abbrev Below : Due → Type 0
   Below d = d ≡ Due.Of t number coming → t .token < length slots
 
@@ -39,17 +45,17 @@ module _ (slots : List ℕ) (domain next : ℕ) (t : Ticket) (number coming : �
   own-below : (s : Ticket) → s .token < length slots → (m k : ℕ) → Below (Due.Of s m k)
   own-below s h m k e = let p : s ≡ t = cc in let j : s .token ≡ t .token = ap (λ (x : Ticket). x .token) p in omega arith
 
-  fresh-below : (f : Found) → newest (occupied 0 slots) ≡ f → Below (freshDue f slots domain next)
+  fresh-below : (f : Found) → newest (occupied 0 slots) ≡ f → Below (freshDue f held domain next)
   fresh-below Missing m = not-due (λ e. cc)
   fresh-below (At k) m =
-      if-by Below (eqb (slotIn slots k) 0) _ _ (λ _. not-due (λ e. cc))
-      (λ _. if-by Below (leb noMore next) _ _ (λ _. not-due (λ e. cc)) (λ _. own-below (freshOf domain k next) (newest-below slots k m) (slotIn slots k) (next + 1)))
+      if-by Below (eqb held 0) _ _ (λ _. not-due (λ e. cc))
+      (λ _. if-by Below (leb noMore next) _ _ (λ _. not-due (λ e. cc)) (λ _. own-below (freshOf domain k next) (newest-below slots k m) held (next + 1)))
 
   module _ (selection : Selection) (own : (s : Ticket) → selection ≡ Of s → s .token < length slots) where
-    chosen-below : (s : Selection) → selection ≡ s → Below (dueBy (sought s slots) slots domain next s)
+    chosen-below : (s : Selection) → selection ≡ s → Below (dueBy (sought s slots) held domain next s)
     chosen-below Free e = fresh-below (newest (occupied 0 slots)) refl
-    chosen-below (Of s) e = if-by Below (eqb (slotIn slots (s .token)) 0) _ _ (λ _. not-due (λ e. cc)) (λ _. own-below s (own s e) (slotIn slots (s .token)) next)
+    chosen-below (Of s) e = if-by Below (eqb held 0) _ _ (λ _. not-due (λ e. cc)) (λ _. own-below s (own s e) held next)
 
-    pub due-below : (issued failed : Bool) → Below (popDue issued failed selection (sought selection slots) slots domain next)
+    pub due-below : (issued failed : Bool) → Below (popDue issued failed selection (sought selection slots) held domain next)
     unfolding popDue
     due-below issued failed = if-by Below issued _ _ (λ _. not-due (λ e. cc)) (λ _. if-by Below failed _ _ (λ _. not-due (λ e. cc)) (λ _. chosen-below selection refl))

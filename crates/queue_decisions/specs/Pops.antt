@@ -20,6 +20,12 @@ abbrev pub sought : Selection → List ℕ → Found
 sought Free slots = newest (occupied 0 slots)
 sought (Of t) slots = Missing
 
+-- R42, R43: the number in question: in the ready ticket's slot, or else in that of the token found
+abbrev pub numberDue : Selection → Found → List ℕ → ℕ
+numberDue Free (At token) slots = slotIn slots token
+numberDue Free Missing slots = 0
+numberDue (Of t) found slots = slotIn slots (t .token)
+
 -- R45: a fresh ticket carries next
 abbrev pub freshOf : ℕ → ℕ → ℕ → Ticket
 freshOf domain token next = record { domain = domain; token = token; attempt = next }
@@ -32,9 +38,9 @@ freshBy token number domain next =
     Due.Of (freshOf domain token next) number (next + 1)
 
 -- R44: Nothing where none waits
-abbrev pub freshDue : Found → List ℕ → ℕ → ℕ → Due
-freshDue Missing slots domain next = Due.Nothing
-freshDue (At token) slots domain next = freshBy token (slotIn slots token) domain next
+abbrev pub freshDue : Found → ℕ → ℕ → ℕ → Due
+freshDue Missing number domain next = Due.Nothing
+freshDue (At token) number domain next = freshBy token number domain next
 
 -- R46: the ready ticket keeps its attempt
 abbrev pub readyBy : Ticket → ℕ → ℕ → Due
@@ -43,9 +49,9 @@ readyBy ticket number next =
     Due.Of ticket number next
 
 -- R42, R43: the ready ticket, or else the newest waiting token
-abbrev pub dueBy : Found → List ℕ → ℕ → ℕ → Selection → Due
-dueBy found slots domain next Free = freshDue found slots domain next
-dueBy found slots domain next (Of ticket) = readyBy ticket (slotIn slots (ticket .token)) next
+abbrev pub dueBy : Found → ℕ → ℕ → ℕ → Selection → Due
+dueBy found number domain next Free = freshDue found number domain next
+dueBy found number domain next (Of ticket) = readyBy ticket number next
 
 -- R41: a mark stands: something is out, or has failed. Both at once, as either branch of the code asks them
 abbrev pub isMarked : Bool → Bool → Bool
@@ -56,8 +62,8 @@ abbrev pub unless : Bool → Due → Due
 unless rests due = if rests then Due.Nothing else due
 
 -- R41: Nothing while a mark stands
-unfoldable pub popDue : Bool → Bool → Selection → Found → List ℕ → ℕ → ℕ → Due
-popDue issued failed selection found slots domain next =
+unfoldable pub popDue : Bool → Bool → Selection → Found → ℕ → ℕ → ℕ → Due
+popDue issued failed selection found number domain next =
     if issued then Due.Nothing else
     if failed then Due.Nothing else
-    dueBy found slots domain next selection
+    dueBy found number domain next selection

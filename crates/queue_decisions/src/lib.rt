@@ -10,6 +10,7 @@ pub use answers::complete_refusal;
 pub use births::land_refusal;
 pub use births::register_refusal;
 pub use pops::Due;
+pub use pops::number_due;
 pub use pops::pop_due;
 pub use pops::seek;
 pub use renewals::Renewal;

@@ -8,8 +8,7 @@ use queue_record::newest_place;
 use queue_record::refusal::HOLLOW;
 use queue_record::refusal::NO_ATTEMPT;
 ghost use mathlib.Core.Path.{_≡_};
-ghost use Rattle.queue_decisions.specs.Slots.{slotIn};
-ghost use Rattle.queue_decisions.specs.Pops.{sought, isMarked, unless, freshDue, readyBy, popDue};
+ghost use Rattle.queue_decisions.specs.Pops.{sought, numberDue, isMarked, unless, freshDue, readyBy, popDue};
 
 pub enum Due {
     Nothing,
@@ -29,6 +28,19 @@ pub fn seek(selection: Selection, slots: &[u64]) -> Found
     newest_place(slots)
 }
 
+// By value; sound words are read at the slot itself, with no test of its place (word_steps).
+pub fn number_due(selection: Selection, found: Found, slots: &[u64]) -> u64
+    ensures { λ r. ⌜ r ≡ numberDue selection found (now (slots .entry)) ⌝ }
+{
+    if let Selection::Of(ready) = selection {
+        return slot_at(slots, ready.token);
+    }
+    let Found::At(token) = found else {
+        return 0;
+    };
+    slot_at(slots, token)
+}
+
 // Out or failed: nothing is handed out beside it.
 fn marked(issued: bool, failed: bool) -> bool
     ensures { λ r. ⌜ r ≡ isMarked issued failed ⌝ }
@@ -40,8 +52,8 @@ fn marked(issued: bool, failed: bool) -> bool
 }
 
 // A fresh ticket for the token that was found.
-fn fresh_due(issued: bool, failed: bool, found: Found, slots: &[u64], domain: u64, next: u64) -> Due
-    ensures { λ r. ⌜ r ≡ unless (isMarked issued failed) (freshDue found (now (slots .entry)) domain next) ⌝ }
+fn fresh_due(issued: bool, failed: bool, found: Found, number: u64, domain: u64, next: u64) -> Due
+    ensures { λ r. ⌜ r ≡ unless (isMarked issued failed) (freshDue found number domain next) ⌝ }
 {
     let Found::At(token) = found else {
         return Due::Nothing;
@@ -49,7 +61,6 @@ fn fresh_due(issued: bool, failed: bool, found: Found, slots: &[u64], domain: u6
     if marked(issued, failed) {
         return Due::Nothing;
     }
-    let number = slot_at(slots, token);
     if number == 0 {
         return Due::Refused(HOLLOW);
     }
@@ -64,13 +75,12 @@ fn fresh_due(issued: bool, failed: bool, found: Found, slots: &[u64], domain: u6
     Due::Of(ticket, number, next + 1)
 }
 
-fn ready_due(issued: bool, failed: bool, ready: Ticket, slots: &[u64], next: u64) -> Due
-    ensures { λ r. ⌜ r ≡ unless (isMarked issued failed) (readyBy ready (slotIn (now (slots .entry)) (ready .token)) next) ⌝ }
+fn ready_due(issued: bool, failed: bool, ready: Ticket, number: u64, next: u64) -> Due
+    ensures { λ r. ⌜ r ≡ unless (isMarked issued failed) (readyBy ready number next) ⌝ }
 {
     if marked(issued, failed) {
         return Due::Nothing;
     }
-    let number = slot_at(slots, ready.token);
     if number == 0 {
         return Due::Refused(HOLLOW);
     }
@@ -83,14 +93,14 @@ pub fn pop_due(
     failed: bool,
     selection: Selection,
     found: Found,
-    slots: &[u64],
+    number: u64,
     domain: u64,
     next: u64,
 ) -> Due
-    ensures { λ r. ⌜ r ≡ popDue issued failed selection found (now (slots .entry)) domain next ⌝ }
+    ensures { λ r. ⌜ r ≡ popDue issued failed selection found number domain next ⌝ }
 {
     let Selection::Of(ready) = selection else {
-        return fresh_due(issued, failed, found, slots, domain, next);
+        return fresh_due(issued, failed, found, number, domain, next);
     };
-    ready_due(issued, failed, ready, slots, next)
+    ready_due(issued, failed, ready, number, next)
 }

@@ -10,8 +10,9 @@ use Rattle.queue_record.specs.declared.record.Ticket.{Ticket}
 use Rattle.queue_record.specs.declared.record.Selection.{Selection}
 use Rattle.queue_record.specs.declared.record.Selection.the-variants.{Free, Of}
 use Rattle.queue_record.specs.declared.record.Queue.{Queue}
+use Rattle.queue_record.specs.declared.search.Found.{Found}
 use Rattle.queue_decisions.specs.Slots.{slotIn}
-use Rattle.queue_decisions.specs.Pops.{sought, freshOf, popDue}
+use Rattle.queue_decisions.specs.Pops.{sought, numberDue, freshOf, popDue}
 use Rattle.queue_decisions.specs.Answers.{completeRefusal}
 use Rattle.queue_decisions.specs.Renewals.{allowedBy, renewedOf, retryDue}
 use Rattle.queue_decisions.specs.declared.pops.Due.{Due}
@@ -48,9 +49,13 @@ handed q ticket number next = record { answer = Work ticket number; queue = issu
 abbrev pub freshTicket : Queue → ℕ → Ticket
 freshTicket q token = freshOf (q .domain) token (q .next)
 
+-- what is due in this record, by what was found there
+abbrev pub dueFound : Queue → Found → Due
+dueFound q found = popDue (q .issued) (q .failed) (q .selection) found (numberDue (q .selection) found (q .slots)) (q .domain) (q .next)
+
 -- what is due in this record
 abbrev pub dueIn : Queue → Due
-dueIn q = popDue (q .issued) (q .failed) (q .selection) (sought (q .selection) (q .slots)) (q .slots) (q .domain) (q .next)
+dueIn q = dueFound q (sought (q .selection) (q .slots))
 
 -- what is due is handed out
 abbrev pub poppedAs : Queue → Due → PopAnswer

@@ -2,6 +2,7 @@
 use queue_decisions::Due;
 use queue_decisions::Renewal;
 use queue_decisions::complete_refusal;
+use queue_decisions::number_due;
 use queue_decisions::pop_due;
 use queue_decisions::retry_due;
 use queue_decisions::seek;
@@ -69,12 +70,13 @@ pub fn pop(q: Queue) -> PopAnswer
     let slots = q.slots;
     let selection = q.selection;
     let found = seek(selection, &slots);
+    let number = number_due(selection, found, &slots);
     let due = pop_due(
         q.issued,
         q.failed,
         selection,
         found,
-        &slots,
+        number,
         q.domain,
         q.next,
     );

@@ -8,11 +8,13 @@ use lib.ListN.{length}
 use Rattle.choice.proofs.Ways.{hit, miss}
 use Rattle.queue_record.specs.Refusals.{broken}
 use Rattle.queue_record.specs.declared.record.Ticket.{Ticket}
+use Rattle.queue_record.specs.declared.search.Found.the-variants.{At}
 use Rattle.queue_record.proofs.Fit.{selected-below}
+use Rattle.queue_decisions.specs.Pops.{sought}
 use Rattle.queue_decisions.specs.declared.pops.Due.{Due}
-use Rattle.queue_decisions.proofs.PopLaws.{due-below}
+use Rattle.queue_decisions.proofs.PopLaws.{sought-below, due-below}
 use Rattle.queue_steps.specs.Attempts.{dueIn, poppedAs, popped}
-use Rattle.queue_words.specs.Words.{queueOf, isSound}
+use Rattle.queue_words.specs.Words.{slotsIn, selectionIn, queueOf, isSound}
 use Rattle.queue_words.specs.Exported.{refusedOn, popExported, popOn}
 use Rattle.queue_words.proofs.OnWords.{unsound-on, sound-on, sound-fits, not-broken, held}
 
@@ -29,8 +31,16 @@ module _ (ws : List ℕ) (s : isSound ws ≡ true) where
   due-place t number next e =
       let q = queueOf ws in
       let l : length (q .slots) ≡ 64 = held ws s .slots in
-      let b : t .token < length (q .slots) = due-below (q .slots) (q .domain) (q .next) t number next (q .selection)
+      let b : t .token < length (q .slots) = due-below (q .slots) _ (q .domain) (q .next) t number next (q .selection)
       (λ o h. let k : o .token < 64 = selected-below q o (sound-fits ws s) h in omega arith) (q .issued) (q .failed) e in
+      omega arith
+
+  -- and so does the token found
+  pub found-place : (token : ℕ) → sought (selectionIn ws) (slotsIn ws) ≡ At token → token < 64
+  unfolding queueOf
+  found-place token e =
+      let l : length (slotsIn ws) ≡ 64 = held ws s .slots in
+      let b : token < length (slotsIn ws) = sought-below (selectionIn ws) (slotsIn ws) token e in
       omega arith
 
 -- words that are not sound are refused with 1

@@ -1,6 +1,8 @@
 // Pop: what is due on sound words, and the stores that hand it out.
 use queue_decisions::Due;
 use queue_decisions::pop_due;
+use queue_record::Found;
+use queue_record::Selection;
 use queue_record::Ticket;
 use queue_words::layout::*;
 use queue_words::select;
@@ -9,9 +11,32 @@ use queue_words::sought_in;
 ghost use mathlib.Core.Path.{_≡_};
 ghost use mathlib.Core.Bool.{true};
 ghost use Prim.Native.Nat.{_<_};
+ghost use Rattle.queue_decisions.specs.Slots.{slotIn};
+ghost use Rattle.queue_decisions.specs.Pops.{sought, numberDue};
 ghost use Rattle.queue_steps.specs.Attempts.{dueIn, issuedTo};
-ghost use Rattle.queue_words.specs.Words.{queueOf, wordsOf, isSound};
+ghost use Rattle.queue_words.specs.Words.{slotsIn, selectionIn, queueOf, wordsOf, isSound};
 ghost use Rattle.queue_words.specs.Exported.{exported, popOn};
+
+fn slot_in(w: &Words, token: u64) -> u64
+    requires { ⌜ token < 64 ⌝ }
+    ensures { λ r. ⌜ r ≡ slotIn (slotsIn (now (w .entry))) token ⌝ }
+{
+    w[SLOTS + token as usize]
+}
+
+// In sound words the token in question is one of the 64: its slot is read with no test.
+fn number_in(w: &Words, selection: Selection, found: Found) -> u64
+    requires { ⌜ (isSound (now w) ≡ true) × (selection ≡ selectionIn (now w)) × (found ≡ sought (selectionIn (now w)) (slotsIn (now w))) ⌝ }
+    ensures { λ r. ⌜ r ≡ numberDue selection found (slotsIn (now (w .entry))) ⌝ }
+{
+    if let Selection::Of(ready) = selection {
+        return slot_in(w, ready.token);
+    }
+    let Found::At(token) = found else {
+        return 0;
+    };
+    slot_in(w, token)
+}
 
 pub fn due_in(w: &Words) -> Due
     requires { ⌜ isSound (now w) ≡ true ⌝ }
@@ -21,11 +46,10 @@ pub fn due_in(w: &Words) -> Due
     let failed = w[FAILED] == 1;
     let domain = w[DOMAIN];
     let next = w[NEXT];
-    let words = &w[..];
-    let slots = &words[SLOTS..COUNT];
     let selection = selection_in(w);
     let found = sought_in(w);
-    pop_due(issued, failed, selection, found, slots, domain, next)
+    let number = number_in(w, selection, found);
+    pop_due(issued, failed, selection, found, number, domain, next)
 }
 
 // The ticket is selected, its slot empties, issued is set.

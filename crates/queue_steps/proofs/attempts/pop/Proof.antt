@@ -1,5 +1,5 @@
 -- Refused, or what is due is handed out
-use Prim.Native.Nat.{_<_}
+use Prim.Native.Nat.{ℕ, _<_}
 use mathlib.Core.Path.{_≡_, sym, ap, _∙_}
 use mathlib.Core.Bool.{true, not}
 use lib.ListN.{length}
@@ -14,7 +14,7 @@ use Rattle.queue_record.proofs.Fit.{selected-below}
 use Rattle.queue_decisions.specs.Pops.{popDue}
 use Rattle.queue_decisions.specs.declared.pops.Due.{Due}
 use Rattle.queue_decisions.proofs.PopLaws.{due-below}
-use Rattle.queue_steps.specs.Attempts.{dueIn, poppedAs, popped}
+use Rattle.queue_steps.specs.Attempts.{dueFound, dueIn, poppedAs, popped}
 use borrow.Author.Needs.{needs}
 use native.Mathlib.Omega.{arith}
 use Rattle.queue_steps.proofs.attempts.pop.Statement.{statement}
@@ -27,22 +27,27 @@ asked c = (c .before .before .args .q)
 sound : (c : tie.Else1) → wellFormed (asked c) ≡ true
 sound c = sym (c .before .well-formed .ensures) ∙ not-false _ (c .if1 .left)
 
--- behind the search and behind the decision
+-- behind the search, and behind the decision
 abbrev to1 : tie.After-seek → tie.Else1
 to1 c = (c .before .before .before)
 
-abbrev own : tie.After-pop-due → Queue
-own c = asked (to1 (c .before .before))
+abbrev to-seek : tie.After-pop-due → tie.After-seek
+to-seek c = c .before .before .before
 
-abbrev byFound : Queue → Found → Due
-byFound q f = popDue (q .issued) (q .failed) (q .selection) f (q .slots) (q .domain) (q .next)
+abbrev own : tie.After-pop-due → Queue
+own c = asked (to1 (to-seek c))
+
+abbrev byNumber : Queue → Found → ℕ → Due
+byNumber q found number = popDue (q .issued) (q .failed) (q .selection) found number (q .domain) (q .next)
 
 decided : (c : tie.After-pop-due) → (c .pop-due .result) ≡ dueIn (own c)
-decided c = (c .pop-due .ensures) ∙ ap (byFound (own c)) (c .before .before .seek .ensures)
+decided c =
+    (c .pop-due .ensures)
+    ∙ (ap (byNumber (own c) (to-seek c .seek .result)) (c .before .number-due .ensures) ∙ ap (dueFound (own c)) (to-seek c .seek .ensures))
 
 due : (c : tie.After-pop-due) {d : Due} → (c .pop-due .result) ≡ d → popped (own c) ≡ poppedAs (own c) d
 unfolding popped
-due c h = miss _ (ap not (sound (to1 (c .before .before)))) ∙ ap (poppedAs (own c)) (sym (decided c) ∙ h)
+due c h = miss _ (ap not (sound (to1 (to-seek c)))) ∙ ap (poppedAs (own c)) (sym (decided c) ∙ h)
 
 -- the ticket that is due names one of the 64 slots
 abbrev to-due : tie.After-due2 → tie.After-pop-due
@@ -52,14 +57,14 @@ abbrev ticket : tie.After-due2 → Ticket
 ticket c = c .due2 .given .0 .0
 
 selected : (c : tie.After-due2) (s : Ticket) → own (to-due c) .selection ≡ Of s → s .token < 64
-selected c s e = selected-below (own (to-due c)) s (sound (to1 (to-due c .before .before))) e
+selected c s e = selected-below (own (to-due c)) s (sound (to1 (to-seek (to-due c)))) e
 
 in-place : (c : tie.After-due2) → ticket c .token < 64
 in-place c =
     let q = own (to-due c) in
     let l : length (q .slots) ≡ 64 = search needs in
     let b : ticket c .token < length (q .slots) =
-    due-below (q .slots) (q .domain) (q .next) (ticket c) (c .due2 .given .0 .1 .0) (c .due2 .given .0 .1 .1 .0) (q .selection)
+    due-below (q .slots) _ (q .domain) (q .next) (ticket c) (c .due2 .given .0 .1 .0) (c .due2 .given .0 .1 .1 .0) (q .selection)
     (λ s e. let k : s .token < 64 = selected c s e in omega arith) (q .issued) (q .failed)
     (sym (decided (to-due c)) ∙ (c .due2 .given .1)) in
     omega arith
@@ -75,6 +80,7 @@ pop-spec =
     (λ c. search needs)
     (λ c κs. search needs)
     (λ c. search needs)
+    (λ c κs. search needs)
     (λ c κs. search needs)
     (λ c. search needs)
     (λ c κs. search needs)

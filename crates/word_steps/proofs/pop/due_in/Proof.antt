@@ -4,7 +4,7 @@ use mathlib.Core.Path.{_≡_, ap, _∙_}
 use mathlib.Core.List.{List}
 use Rattle.queue_record.specs.declared.record.Selection.{Selection}
 use Rattle.queue_record.specs.declared.search.Found.{Found}
-use Rattle.queue_decisions.specs.Pops.{popDue}
+use Rattle.queue_decisions.specs.Pops.{numberDue, popDue}
 use Rattle.queue_decisions.specs.declared.pops.Due.{Due}
 use Rattle.queue_steps.specs.Attempts.{dueIn}
 use Rattle.queue_words.specs.Layout.{atDomain, atNext, atFailed, atIssued}
@@ -13,27 +13,32 @@ use borrow.Author.Needs.{needs}
 use Rattle.word_steps.proofs.pop.due_in.Statement.{statement}
 use Rattle.word_steps.proofs.pop.due_in.Tie as tie
 
--- the marks and numbers read, and the slots lent
-abbrev to-next : tie.After-slots → tie.After-next
-to-next c = c .before .before
-
+-- the marks and numbers read
 abbrev start : tie.After-next → tie.Start
 start c = c .before .before .before .before
 
--- behind the search
+-- behind the search: the words that are asked, what is selected there, and what was found
 abbrev asked : tie.After-sought-in → List ℕ
-asked c = start (to-next (c .before .before)) .args .w .now
+asked c = start (c .before .before) .args .w .now
 
-abbrev byOwn : tie.After-sought-in → Selection → Found → Due
-byOwn c s f =
-    popDue (markAt (word (asked c) atIssued)) (markAt (word (asked c) atFailed)) s f (slotsIn (asked c))
-    (word (asked c) atDomain) (word (asked c) atNext)
+abbrev selected : tie.After-sought-in → Selection
+selected c = c .before .selection-in .result
 
-own : (c : tie.After-sought-in) → byOwn c (c .before .selection-in .result) (c .sought-in .result) ≡ dueIn (queueOf (asked c))
+abbrev found : tie.After-sought-in → Found
+found c = c .sought-in .result
+
+abbrev byNumber : tie.After-sought-in → Selection → Found → ℕ → Due
+byNumber c s f n =
+    popDue (markAt (word (asked c) atIssued)) (markAt (word (asked c) atFailed)) s f n (word (asked c) atDomain) (word (asked c) atNext)
+
+abbrev byBoth : tie.After-sought-in → Selection → Found → Due
+byBoth c s f = byNumber c s f (numberDue s f (slotsIn (asked c)))
+
+own : (c : tie.After-sought-in) → byBoth c (selected c) (found c) ≡ dueIn (queueOf (asked c))
 unfolding queueOf
 own c =
-    ap (λ (s : Selection). byOwn c s (c .sought-in .result)) (c .before .selection-in .ensures)
-    ∙ ap (byOwn c (selectionIn (asked c))) (c .sought-in .ensures)
+    ap (λ (s : Selection). byBoth c s (found c)) (c .before .selection-in .ensures)
+    ∙ ap (byBoth c (selectionIn (asked c))) (c .sought-in .ensures)
 
 pub due-in-spec : {M : Type 1} → statement M
 due-in-spec =
@@ -43,10 +48,10 @@ due-in-spec =
     (λ c. search needs)
     (λ c. search needs)
     (λ c. search needs)
-    (λ c. search needs)
-    (λ c. search needs)
-    (λ c. search needs)
     (λ c κs. search needs)
     (λ c κs. search needs)
+    (λ c κs. (start (c .before .before) .pre, c .before .selection-in .ensures, c .sought-in .ensures))
     (λ c κs. search needs)
-    (λ c. (c .pop-due .ensures) ∙ own (c .before)))
+    (λ c.
+    let b = c .before .before in
+    (c .pop-due .ensures) ∙ (ap (byNumber b (selected b) (found b)) (c .before .number-in .ensures) ∙ own b)))
