@@ -8,6 +8,7 @@
 #include "processes.h"
 #include "readings.h"
 #include "timing.h"
+#include "waits.h"
 
 #define DRIVER_ROWS 800
 #define SIZES 4
@@ -38,6 +39,18 @@ static void print_cycles(const char *name, const work_many sides[SIDES], const s
         snprintf(what, sizeof what, "%s, %zu token%s", name, counts[i], counts[i] == 1 ? "" : "s");
         /* One opening, then register, pop and complete for each token. */
         time_row(what, &timed, (double)(1 + 3 * counts[i]));
+    }
+}
+
+static void print_waits(const char *name, const work_many sides[SIDES], const struct effort *effort) {
+    static const unsigned places[] = {0, GULBERZAN_SLOTS - 1};
+    for (size_t i = 0; i < sizeof places / sizeof places[0]; i++) {
+        char what[64];
+        struct wait wait;
+        make_wait(&wait, places[i]);
+        struct timed timed = time_in_turn(sides, &wait, effort);
+        snprintf(what, sizeof what, "%s, one of %d waits, at place %u", name, GULBERZAN_SLOTS, places[i]);
+        time_row(what, &timed, 1.0);
     }
 }
 
@@ -97,6 +110,9 @@ static void run_all(const struct drivers *drivers, const struct effort *effort) 
     head_row("calls: open, register, pop, complete", "ns a call");
     print_cycles("queue", queue_cycles, effort);
     print_cycles("recorded queue", recorded_cycles, effort);
+    head_row("pop: 64 tokens, one waits", "ns a pop");
+    print_waits("pop by words", word_pops, effort);
+    print_waits("pop by value", value_pops, effort);
     head_row("the reader", "ns a log");
     print_readings(timed, effort);
     print_growth(timed);
