@@ -5,9 +5,10 @@ use mathlib.Core.Bool.{Bool, true, false}
 use mathlib.Core.List.{List}
 use native.Mathlib.Omega.{arith}
 use lib.Dec.{eqb, leb}
-use lib.ListN.{length}
+use lib.ListN.{length, take}
 use Rattle.choice.specs.Choice.{if_then_else_}
 use Rattle.choice.proofs.Ways.{if-by}
+use Rattle.queue_record.specs.WellFormed.{restZero}
 use Rattle.queue_record.specs.Waiting.{occupied}
 use Rattle.queue_record.specs.Newest.{newest}
 use Rattle.queue_record.specs.declared.record.Ticket.{Ticket}
@@ -15,6 +16,7 @@ use Rattle.queue_record.specs.declared.record.Selection.{Selection}
 use Rattle.queue_record.specs.declared.record.Selection.the-variants.{Free, Of}
 use Rattle.queue_record.specs.declared.search.Found.{Found}
 use Rattle.queue_record.specs.declared.search.Found.the-variants.{At, Missing}
+use Rattle.queue_record.proofs.Waiting.{occupied-take}
 use Rattle.queue_record.proofs.Last.{newest-below}
 use Rattle.queue_decisions.specs.Slots.{noMore}
 use Rattle.queue_decisions.specs.Pops.{sought, isMarked, unless, freshOf, freshDue, dueBy, popDue}
@@ -28,6 +30,11 @@ unless-nothing false = refl
 pub marks-once : (issued failed : Bool) (d : Due) → (if issued then Due.Nothing else if failed then Due.Nothing else d) ≡ unless (isMarked issued failed) d
 marks-once true failed d = refl
 marks-once false failed d = refl
+
+-- the slots of the tokens that there are hold all that is looked for
+pub sought-issued : (s : Selection) (tokens : ℕ) (slots : List ℕ) → restZero tokens slots ≡ true → sought s (take tokens slots) ≡ sought s slots
+sought-issued Free tokens slots rest = ap newest (occupied-take 0 tokens slots rest)
+sought-issued (Of t) tokens slots rest = refl
 
 -- what was found is one of the slots
 pub sought-below : (s : Selection) (slots : List ℕ) (token : ℕ) → sought s slots ≡ At token → token < length slots

@@ -48,7 +48,8 @@ pub fn is_empty(q: Queue) -> Told
     }
     let selection = q.selection;
     let slots = q.slots;
-    say(nothing_left(selection, &slots))
+    let tokens = q.count as usize;
+    say(nothing_left(selection, &slots[..tokens]))
 }
 
 pub fn is_issued(q: Queue) -> Told

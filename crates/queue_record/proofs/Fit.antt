@@ -6,7 +6,7 @@ use mathlib.Core.List.{List, [], _∷_}
 use native.Mathlib.Omega.{arith}
 use borrow.Author.Tests.{eq-eqb, lt-ltb, le-leb, eqb-true, ltb-true, leb-true}
 use lib.Dec.{eqb, ltb}
-use lib.ListN.{getD}
+use lib.ListN.{length, getD}
 use Rattle.choice.proofs.Ways.{pass, and-left, and-right, clash}
 use Rattle.queue_record.specs.WellFormed.{allTrue, clauses, restZero, isSelected, ticketFits, marksFit, slotFits, selectedFits, scopeFits, wellFormed}
 use Rattle.queue_record.specs.declared.record.Ticket.{Ticket}
@@ -52,6 +52,10 @@ fits q f =
     pass _ (le-leb _ _ (f .count))
     ∙ (pass _ (le-leb _ _ (f .given .bound))
     ∙ (pass _ (f .slots) ∙ (pass _ (f .given .bindings) ∙ (pass _ (f .scope) ∙ (pass _ (f .ticket) ∙ (pass _ (f .marks) ∙ pass _ (f .selected)))))))
+
+-- the tokens have room, so that their slots can be lent
+pub tokens-within : (q : Queue) → wellFormed q ≡ true → length (q .slots) ≡ 64 → q .count ≤ length (q .slots)
+tokens-within q h l = let b : q .count ≤ 64 = fit q h .count in omega arith
 
 -- ---- the selected ticket
 module _ (domain count next : ℕ) (t : Ticket) where

@@ -1,37 +1,56 @@
 -- The newest occupied place: the walk that finds it, and what it is
-use Prim.Native.Nat.{ℕ, suc, _+_, _<_, _≤_}
+use Prim.Native.Nat.{ℕ, zero, suc, _+_, _-_, _<_, _≤_}
 use mathlib.Core.Path.{_≡_, refl, sym, ap, _∙_}
 use mathlib.Core.Bool.{Bool, true, false}
 use mathlib.Core.Logic.{_⊎_, inl, inr, ⊎-elim}
 use mathlib.Core.List.{List, [], _∷_, _++_}
 use native.Mathlib.Omega.{arith}
 use native.Mathlib.Numerals.{add-one}
-use borrow.Author.Tests.{eq-eqb, ne-eqb, eqb-false, ltb-true, ltb-false}
+use borrow.Author.Tests.{ne-eqb, eqb-false, ltb-true, ltb-false}
 use lib.Dec.{eqb, ltb}
-use lib.ListN.{length, getD, drop, drop-of-length-le, List·getD-eq-default}
-use lib.Seq.{drop-cons}
+use lib.ListN.{length, getD, List·getD-eq-default}
 use Rattle.choice.specs.Choice.{if_then_else_}
-use Rattle.choice.proofs.Ways.{hit, miss}
+use Rattle.queue_record.specs.WellFormed.{allZero, restZero}
 use Rattle.queue_record.specs.Waiting.{occupied, without}
-use Rattle.queue_record.proofs.Waiting.{without-skip, without-keep}
+use Rattle.queue_record.proofs.Zeros.{zero-pass}
+use Rattle.queue_record.proofs.Waiting.{occupied-full, by-first, none-occupied, without-skip, without-keep}
 use Rattle.queue_record.specs.Newest.{lastOr, newest}
 use Rattle.queue_record.specs.declared.search.Found.{Found}
 use Rattle.queue_record.specs.declared.search.Found.the-variants.{At, Missing}
 
--- ---- one step of the walk
-module _ (s : List ℕ) (i : ℕ) where
-  occupied-step : i < length s → occupied i (drop i s) ≡ (if eqb (getD s i 0) 0 then occupied (i + 1) (drop (i + 1) s) else i ∷ occupied (i + 1) (drop (i + 1) s))
-  occupied-step h = rw (add-one, drop-cons s i 0)
+-- ---- the walk down: behind the place that it has reached all is 0
+last-zeros : (k : ℕ) (xs : List ℕ) (f : Found) → allZero xs ≡ true → lastOr f (occupied k xs) ≡ f
+last-zeros k xs f h = ap (lastOr f) (none-occupied k xs h)
 
-  module _ (found : Found) where
-    pub last-hit : i < length s → (getD s i 0 ≡ 0 → ⊥) → lastOr (At i) (occupied (i + 1) (drop (i + 1) s)) ≡ lastOr found (occupied i (drop i s))
-    last-hit h n = sym (ap (lastOr found) (occupied-step h ∙ miss _ (ne-eqb _ _ n)))
+-- an occupied place behind which all is 0 is the last one
+last-full : (k : ℕ) (xs : List ℕ) (i : ℕ) (f : Found) → restZero (suc i) xs ≡ true → (getD xs i 0 ≡ 0 → ⊥) → lastOr f (occupied k xs) ≡ At (k + i)
+last-full k [] i f h n = absurd (n refl)
+last-full k (x ∷ xs) zero f h n =
+    let s : k ≡ k + 0 = omega arith in
+    ap (lastOr f) (occupied-full k x xs (ne-eqb x 0 n)) ∙ (last-zeros (suc k) xs (At k) h ∙ ap At s)
+last-full k (x ∷ xs) (suc i) f h n =
+    let s : suc k + i ≡ k + suc i = omega arith in
+    by-first (λ (ks : List ℕ). lastOr f ks ≡ At (k + suc i)) k x xs (λ _. last-full (suc k) xs i f h n ∙ ap At s) (λ _. last-full (suc k) xs i (At k) h n ∙ ap At s)
 
-    pub last-pass : i < length s → getD s i 0 ≡ 0 → lastOr found (occupied (i + 1) (drop (i + 1) s)) ≡ lastOr found (occupied i (drop i s))
-    last-pass h e = sym (ap (lastOr found) (occupied-step h ∙ hit _ (eq-eqb _ _ e)))
+-- one step down
+module _ (xs : List ℕ) (left : ℕ) (some : 0 < left) (rest : restZero left xs ≡ true) where
+  rest-behind : restZero (left - 1 + 1) xs ≡ true
+  rest-behind = let e : left - 1 + 1 ≡ left = omega arith in ap (λ (i : ℕ). restZero i xs) e ∙ rest
 
-    pub last-end : length s ≤ i → lastOr found (occupied i (drop i s)) ≡ found
-    last-end h = rw (drop-of-length-le s h)
+  pub down-found : (getD xs (left - 1) 0 ≡ 0 → ⊥) → newest (occupied 0 xs) ≡ At (left - 1)
+  unfolding newest
+  down-found n =
+      let s : 0 + (left - 1) ≡ left - 1 = omega arith in
+      last-full 0 xs (left - 1) Missing (rw add-one at rest-behind) n ∙ ap At s
+
+  pub down-pass : left ≤ length xs → getD xs (left - 1) 0 ≡ 0 → restZero (left - 1) xs ≡ true
+  down-pass l e = sym (zero-pass xs (left - 1) (omega arith) e) ∙ rest-behind
+
+pub down-none : (xs : List ℕ) (left : ℕ) → left ≤ 0 → restZero left xs ≡ true → newest (occupied 0 xs) ≡ Missing
+unfolding newest
+down-none xs left z rest =
+    let e : left ≡ 0 = omega arith in
+    last-zeros 0 xs Missing (sym (ap (λ (i : ℕ). restZero i xs) e) ∙ rest)
 
 pub from-missing : (ks : List ℕ) → newest ks ≡ lastOr Missing ks
 unfolding newest

@@ -6,7 +6,7 @@ use mathlib.Core.List.{List, [], _∷_, _++_}
 use native.Mathlib.Omega.{arith}
 use borrow.Author.Tests.{eq-eqb, ne-eqb}
 use lib.Dec.{eqb}
-use lib.ListN.{length, set}
+use lib.ListN.{length, set, take}
 use lib.Seq.{set-set}
 use Rattle.choice.specs.Choice.{if_then_else_}
 use Rattle.choice.proofs.Ways.{hit, miss, and-left, and-right}
@@ -69,11 +69,22 @@ emptied k (x ∷ xs) (suc i) =
 pub stored : (k : ℕ) (xs : List ℕ) (i n : ℕ) → without (k + i) (occupied k (set xs i n)) ≡ without (k + i) (occupied k xs)
 stored k xs i n = sym (emptied k (set xs i n) i) ∙ (ap (occupied k) (set-set xs i n 0) ∙ emptied k xs i)
 
--- ---- a number in the first unused place comes last
+-- ---- among zeros nothing is occupied
 pub none-occupied : (k : ℕ) (xs : List ℕ) → allZero xs ≡ true → occupied k xs ≡ []
 none-occupied k [] h = refl
 none-occupied k (x ∷ xs) h = occupied-empty k x xs (and-left (eqb x 0) (allZero xs) h) ∙ none-occupied (suc k) xs (and-right (eqb x 0) (allZero xs) h)
 
+-- the places past the count hold nothing, so that they don't matter
+pub occupied-take : (k c : ℕ) (xs : List ℕ) → restZero c xs ≡ true → occupied k (take c xs) ≡ occupied k xs
+occupied-take k zero xs h = sym (none-occupied k xs h)
+occupied-take k (suc c) [] h = refl
+occupied-take k (suc c) (x ∷ xs) h =
+    let rest : occupied (suc k) (take c xs) ≡ occupied (suc k) xs = occupied-take (suc k) c xs h in
+    by-first (λ (l : List ℕ). occupied k (x ∷ take c xs) ≡ l) k x xs
+    (λ e. occupied-empty k x (take c xs) e ∙ rest)
+    (λ e. occupied-full k x (take c xs) e ∙ ap (λ (l : List ℕ). k ∷ l) rest)
+
+-- ---- a number in the first unused place comes last
 pub appended : (k : ℕ) (xs : List ℕ) (c n : ℕ) → restZero c xs ≡ true → c < length xs → (n ≡ 0 → ⊥) → occupied k (set xs c n) ≡ occupied k xs ++ ((k + c) ∷ [])
 appended k [] c n h l z = absurd (omega arith)
 appended k (x ∷ xs) zero n h l z =

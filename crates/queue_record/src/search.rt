@@ -8,17 +8,16 @@ pub enum Found {
     Missing,
 }
 
-// Tokens fill the slots upwards, so the newest has the highest occupied place.
+// From the last place down to the first number that is met: tokens fill the slots upwards, so that one is the newest.
 pub fn newest_place(slots: &[u64]) -> Found
     ensures { λ r. ⌜ r ≡ newest (occupied 0 (now (slots .entry))) ⌝ }
 {
-    let mut found = Found::Missing;
-    let mut i = 0;
-    while i < slots.len() {
-        if slots[i] != 0 {
-            found = Found::At(i as u64);
+    let mut left = slots.len();
+    while 0 < left {
+        left -= 1;
+        if slots[left] != 0 {
+            return Found::At(left as u64);
         }
-        i += 1;
     }
-    found
+    Found::Missing
 }

@@ -68,8 +68,9 @@ pub fn pop(q: Queue) -> PopAnswer
         return pop_refused(q, BROKEN);
     }
     let slots = q.slots;
+    let tokens = q.count as usize;
     let selection = q.selection;
-    let found = seek(selection, &slots);
+    let found = seek(selection, &slots[..tokens]);
     let number = number_due(selection, found, &slots);
     let due = pop_due(
         q.issued,

@@ -3,7 +3,6 @@ pub mod Places
 pub mod RoundTrip
 pub mod Setters
 pub mod CheckParts
-pub mod Down
 pub mod OnWords
 pub mod OpenWords
 pub mod QuestionWords

@@ -1,18 +1,22 @@
 -- A call on sound words is the call on their record; on others it is refused with 1, and the words stay
-use Prim.Native.Nat.{ℕ, _<_, _≤_}
+use Prim.Native.Nat.{ℕ, _+_, _-_, _<_, _≤_}
 use mathlib.Core.Path.{_≡_, refl, sym, ap, _∙_}
 use mathlib.Core.Bool.{Bool, true, false, not}
 use mathlib.Core.List.{List}
-use lib.ListN.{length}
+use native.Mathlib.Omega.{arith}
+use lib.ListN.{length, take, drop}
+use lib.Seq.{take-take}
 use Rattle.choice.proofs.Ways.{hit, miss, pass, and-left, and-right}
 use Rattle.queue_record.specs.Refusals.{broken}
 use Rattle.queue_record.specs.WellFormed.{restZero, wellFormed}
 use Rattle.queue_record.specs.Record.{Sized}
+use Rattle.queue_record.specs.Waiting.{occupied}
 use Rattle.queue_record.specs.declared.record.Queue.{Queue}
 use Rattle.queue_record.specs.declared.record.Ticket.{Ticket}
 use Rattle.queue_record.specs.declared.record.Selection.the-variants.{Of}
 use Rattle.queue_record.proofs.Fit.{fit, selected-below}
-use Rattle.queue_words.specs.Layout.{atCount, atBound, wordCount}
+use Rattle.queue_record.proofs.Waiting.{occupied-take}
+use Rattle.queue_words.specs.Layout.{atSlots, atCount, atBound, wordCount}
 use Rattle.queue_words.specs.Words.{word, slotsIn, selectionIn, queueOf, wordsOf, encodes, isSound}
 use Rattle.queue_words.specs.Exported.{Exported, refusedOn, onRecord}
 use Rattle.queue_words.proofs.RoundTrip.{encoded, words-again, queue-again, words-encode, queue-sized}
@@ -68,6 +72,13 @@ module _ (ws : List ℕ) where
     pub rest-zero : restZero (word ws atCount) (slotsIn ws) ≡ true
     unfolding queueOf
     rest-zero = fit (queueOf ws) sound-fits .slots
+
+    -- the tokens' slots, a part of the words, hold all that is occupied
+    pub issued-occupied : occupied 0 (take (atSlots + word ws atCount - atSlots) (drop atSlots ws)) ≡ occupied 0 (slotsIn ws)
+    issued-occupied =
+        let e : atSlots + word ws atCount - atSlots ≡ word ws atCount = omega arith in
+        ap (λ (n : ℕ). occupied 0 (take n (drop atSlots ws))) e
+        ∙ (ap (occupied 0) (sym (take-take (word ws atCount) 64 (drop atSlots ws) few-tokens)) ∙ occupied-take 0 (word ws atCount) (slotsIn ws) rest-zero)
 
     pub few-bindings : word ws atBound ≤ 16
     unfolding queueOf

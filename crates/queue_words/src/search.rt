@@ -1,6 +1,7 @@
 // The newest waiting token.
 use crate::layout::*;
 use queue_record::Found;
+use queue_record::newest_place;
 ghost use mathlib.Core.Path.{_≡_};
 ghost use mathlib.Core.Bool.{true};
 ghost use Rattle.queue_record.specs.Waiting.{occupied};
@@ -8,19 +9,14 @@ ghost use Rattle.queue_record.specs.Newest.{newest};
 ghost use Rattle.queue_decisions.specs.Pops.{sought};
 ghost use Rattle.queue_words.specs.Words.{slotsIn, selectionIn, isSound};
 
-// From the last token down: behind it a sound record holds only 0.
+// Of the tokens that there are: behind them a sound record holds only 0.
 pub fn newest_waiting(w: &Words) -> Found
     requires { ⌜ isSound (now w) ≡ true ⌝ }
     ensures { λ r. ⌜ r ≡ newest (occupied 0 (slotsIn (now (w .entry)))) ⌝ }
 {
-    let mut left = w[COUNT] as usize;
-    while 0 < left {
-        left -= 1;
-        if w[SLOTS + left] != 0 {
-            return Found::At(left as u64);
-        }
-    }
-    Found::Missing
+    let end = SLOTS + w[COUNT] as usize;
+    let words = &w[..];
+    newest_place(&words[SLOTS..end])
 }
 
 // Looked for only where nothing is selected.

@@ -1,8 +1,9 @@
 -- Refused, or what is due is handed out
-use Prim.Native.Nat.{ℕ, _<_}
+use Prim.Native.Nat.{ℕ, _<_, _≤_}
 use mathlib.Core.Path.{_≡_, sym, ap, _∙_}
 use mathlib.Core.Bool.{true, not}
 use lib.ListN.{length}
+use lib.Seq.{length-take-le}
 use borrow.Author.Tests.{not-false}
 use Rattle.choice.proofs.Ways.{hit, miss, negated}
 use Rattle.queue_record.specs.WellFormed.{wellFormed}
@@ -10,10 +11,10 @@ use Rattle.queue_record.specs.declared.record.Ticket.{Ticket}
 use Rattle.queue_record.specs.declared.record.Selection.the-variants.{Of}
 use Rattle.queue_record.specs.declared.record.Queue.{Queue}
 use Rattle.queue_record.specs.declared.search.Found.{Found}
-use Rattle.queue_record.proofs.Fit.{selected-below}
-use Rattle.queue_decisions.specs.Pops.{popDue}
+use Rattle.queue_record.proofs.Fit.{fit, tokens-within, selected-below}
+use Rattle.queue_decisions.specs.Pops.{sought, popDue}
 use Rattle.queue_decisions.specs.declared.pops.Due.{Due}
-use Rattle.queue_decisions.proofs.PopLaws.{due-below}
+use Rattle.queue_decisions.proofs.PopLaws.{sought-issued, due-below}
 use Rattle.queue_steps.specs.Attempts.{dueFound, dueIn, poppedAs, popped}
 use borrow.Author.Needs.{needs}
 use native.Mathlib.Omega.{arith}
@@ -26,6 +27,9 @@ asked c = (c .before .before .args .q)
 
 sound : (c : tie.Else1) → wellFormed (asked c) ≡ true
 sound c = sym (c .before .well-formed .ensures) ∙ not-false _ (c .if1 .left)
+
+within : (c : tie.Else1) → asked c .count ≤ length (asked c .slots)
+within c = tokens-within (asked c) (sound c) (search needs)
 
 -- behind the search, and behind the decision
 abbrev to1 : tie.After-seek → tie.Else1
@@ -40,10 +44,14 @@ own c = asked (to1 (to-seek c))
 abbrev byNumber : Queue → Found → ℕ → Due
 byNumber q found number = popDue (q .issued) (q .failed) (q .selection) found number (q .domain) (q .next)
 
+-- the tokens' slots are all that the search needs
+found : (c : tie.After-seek) → (c .seek .result) ≡ sought (asked (to1 c) .selection) (asked (to1 c) .slots)
+found c = let q = asked (to1 c) in (c .seek .ensures) ∙ sought-issued (q .selection) (q .count) (q .slots) (fit q (sound (to1 c)) .slots)
+
 decided : (c : tie.After-pop-due) → (c .pop-due .result) ≡ dueIn (own c)
 decided c =
     (c .pop-due .ensures)
-    ∙ (ap (byNumber (own c) (to-seek c .seek .result)) (c .before .number-due .ensures) ∙ ap (dueFound (own c)) (to-seek c .seek .ensures))
+    ∙ (ap (byNumber (own c) (to-seek c .seek .result)) (c .before .number-due .ensures) ∙ ap (dueFound (own c)) (found (to-seek c)))
 
 due : (c : tie.After-pop-due) {d : Due} → (c .pop-due .result) ≡ d → popped (own c) ≡ poppedAs (own c) d
 unfolding popped
@@ -77,7 +85,10 @@ pop-spec =
     (λ c κs. search needs)
     (λ c κs. search needs)
     (λ c. (c .pop-refused .ensures) ∙ sym (hit _ (negated (c .before .before .well-formed .ensures) (c .before .if1 .taken))))
-    (λ c. search needs)
+    (λ c. within (c .before))
+    (λ c.
+    let e = c .before .before in
+    sym (length-take-le (asked e .count) (asked e .slots) (within e)))
     (λ c κs. search needs)
     (λ c. search needs)
     (λ c κs. search needs)
