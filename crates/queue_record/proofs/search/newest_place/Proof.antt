@@ -1,5 +1,5 @@
 -- What lies behind the place that is reached stays 0
-use Prim.Native.Nat.{ℕ, _≤_}
+use Prim.Native.Nat.{ℕ, _<_, _≤_}
 use mathlib.Core.Path.{_≡_, sym}
 use mathlib.Core.Bool.{true}
 use mathlib.Core.List.{List}
@@ -25,6 +25,10 @@ asked c = c .before .args .slots .now
 abbrev at : tie.After-shared-slice-known Inv-loop μ-loop → tie.At-loop Inv-loop μ-loop
 at c = c .before .before
 
+-- some place is left there
+some : (c : tie.In-loop Inv-loop μ-loop) → 0 < c .before .loop .left
+some c = omega (arith, (c .loop-test .taken))
+
 pub newest-place-spec : {M : Type 1} → statement M
 newest-place-spec =
     tie.close
@@ -37,11 +41,11 @@ newest-place-spec =
     (λ c. omega (arith, (at c .loop .inv .0)))
     (λ c.
     let l = at (c .before) in
-    sym (down-found (asked l) (l .loop .left) (c .before .before .loop-test .taken) (l .loop .inv .1) (c .if1 .taken)))
+    sym (down-found (asked l) (l .loop .left) (some (c .before .before)) (l .loop .inv .1) (c .if1 .taken)))
     (λ c. omega arith)
     (λ c.
     let l = at (c .before) in (
       omega (arith, (l .loop .inv .0)),
-      down-pass (asked l) (l .loop .left) (c .before .before .loop-test .taken) (l .loop .inv .1) (l .loop .inv .0) (c .if1 .left),
+      down-pass (asked l) (l .loop .left) (some (c .before .before)) (l .loop .inv .1) (l .loop .inv .0) (c .if1 .left),
     ))
     (λ c. sym (down-none (asked (c .before)) (c .before .loop .left) (c .loop-test .left) (c .before .loop .inv .1))))
