@@ -6,7 +6,7 @@
 /* Of crates/bench_pops, which makes the queue itself: 0, or how many pops were left at a wrong one. */
 uint64_t bench_pops_by_value(uint64_t place, uint64_t times);
 
-/* Every result is kept, and every number beside the one that waits: a refusal or another token would look like speed. */
+/* Every result is kept, and every number is held against the one that waits: a refusal or another token would look like speed. */
 static void expect_right(uint64_t wrong) {
     if (wrong != 0) {
         die("a pop was refused, or handed out another number");
