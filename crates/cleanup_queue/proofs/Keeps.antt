@@ -28,6 +28,7 @@ use Rattle.queue_births.specs.Births.{grown, registered, landed}
 use Rattle.queue_decisions.specs.Slots.{noMore}
 use Rattle.queue_steps.specs.Attempts.{slot, issuedTo, freshTicket, popped, tookBack, completed, retryAllowed, renewed, again, retried}
 use Rattle.queue_births.specs.declared.births.RegisterAnswer.{RegisterAnswer}
+use Rattle.queue_births.proofs.Grown.{grown-fits}
 use Rattle.queue_steps.specs.declared.attempts.PopAnswer.{PopAnswer}
 use Rattle.queue_steps.specs.declared.attempts.CompleteAnswer.{CompleteAnswer}
 use Rattle.queue_steps.specs.declared.attempts.RetryAnswer.{RetryAnswer}
@@ -51,35 +52,8 @@ emptied-slot l i = go (ltb i (length l)) refl
     go false e = ap (λ (m : List ℕ). getD m i 0) (set-out l i 0 (ltb-false i (length l) e)) ∙ List·getD-eq-default l 0 (ltb-false i (length l) e)
 
 -- ---- register
-module _ (q : Queue) (n : ℕ) where
-  born-ticket : (s : Selection) → ticketFits (q .domain) (q .count) (q .next) s ≡ true → ticketFits (q .domain) (q .count + 1) (q .next) s ≡ true
-  born-ticket Free h = h
-  born-ticket (Of t) h =
-      let b : t .token < q .count = ticket-born (q .domain) (q .count) (q .next) t h in
-      ticket-fits (q .domain) (q .count + 1) (q .next) t (ticket-domain (q .domain) (q .count) (q .next) t h) (omega arith) (ticket-before (q .domain) (q .count) (q .next) t h)
-
-  born-selected : (s : Selection) → ticketFits (q .domain) (q .count) (q .next) s ≡ true
-      → selectedFits (q .failed) (q .issued) (q .slots) s ≡ true → selectedFits (q .failed) (q .issued) (set (q .slots) (q .count) n) s ≡ true
-  born-selected Free h k = k
-  born-selected (Of t) h k =
-      let b : t .token < q .count = ticket-born (q .domain) (q .count) (q .next) t h in
-      ap (slotFits (q .failed) (q .issued)) (getD-set-other (q .slots) (q .count) (t .token) n 0 (λ e. omega arith)) ∙ k
-
-  grown-fit : wellFormed q ≡ true → q .count < 64 → Fit (grown q n)
-  grown-fit h k =
-      let f : Fit q = fit q h in
-      record {
-        given = f .given;
-        count = omega arith;
-        slots = ap allZero (drop-set-lt (q .count + 1) (q .slots) (q .count) n (omega arith)) ∙ rest-more (q .count) (q .slots) (f .slots);
-        scope = f .scope;
-        ticket = born-ticket (q .selection) (f .ticket);
-        marks = f .marks;
-        selected = born-selected (q .selection) (f .ticket) (f .selected);
-      }
-
-  pub register-keeps : wellFormed q ≡ true → wellFormed (registered q n .queue) ≡ true
-  register-keeps h = register-by (λ (r : RegisterAnswer). wellFormed (r .queue) ≡ true) q n (λ _. h) (λ w z k. fits (grown q n) (grown-fit w k))
+pub register-keeps : (q : Queue) (n : ℕ) → wellFormed q ≡ true → wellFormed (registered q n .queue) ≡ true
+register-keeps q n h = register-by (λ (r : RegisterAnswer). wellFormed (r .queue) ≡ true) q n (λ _. h) (λ w z k. grown-fits q n w k)
 
 -- ---- the stage
 -- a settled stage stays settled, so a scope's phase stays Ended or Closed
@@ -107,7 +81,7 @@ moved-fits : (q : Queue) (e : Event) → wellFormed q ≡ true → wellFormed (w
 moved-fits q e h = phase-fits q (phaseAfter (q .phase) e) (fit q h) (scope-moves (q .kind) (q .bound) (q .phase) e (fit q h .scope))
 
 pub land-keeps : (q : Queue) (n : ℕ) → wellFormed q ≡ true → wellFormed (landed q n .queue) ≡ true
-land-keeps q n h = land-by (λ (r : RegisterAnswer). wellFormed (r .queue) ≡ true) q n (λ _. h) (λ w z p k. moved-fits (grown q n) Land (fits (grown q n) (grown-fit q n w k)))
+land-keeps q n h = land-by (λ (r : RegisterAnswer). wellFormed (r .queue) ≡ true) q n (λ _. h) (λ w z p k. moved-fits (grown q n) Land (grown-fits q n w k))
 
 pub admit-keeps : (q : Queue) (matched : Bool) → wellFormed q ≡ true → wellFormed (admitted q matched .queue) ≡ true
 unfolding admitted

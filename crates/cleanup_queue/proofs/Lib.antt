@@ -14,3 +14,4 @@ pub mod Targets
 pub mod Exactly
 pub mod Precisely
 pub mod SoundFits
+pub mod ListLaws

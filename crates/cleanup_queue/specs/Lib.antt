@@ -4,4 +4,5 @@ pub mod Parts
 pub mod Runs
 pub mod Marked
 pub mod Orders
+pub mod WholeLists
 pub mod SoundQueues

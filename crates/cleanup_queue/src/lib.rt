@@ -1,9 +1,12 @@
 // The public face of a cleanup queue: the record, its check, the openings, the calls, the refusals' names and the limits. No other
 // call is public.
+pub use queue_births::RegisterAllAnswer;
 pub use queue_births::RegisterAnswer;
 pub use queue_births::Registered;
+pub use queue_births::RegisteredAll;
 pub use queue_births::land;
 pub use queue_births::register;
+pub use queue_births::register_all;
 pub use queue_questions::DomainTold;
 pub use queue_questions::Told;
 pub use queue_questions::can_finish;

@@ -31,7 +31,7 @@ fn refused(q: Queue, refusal: u64, number: u64) -> RegisterAnswer
 }
 
 // One token more, whose slot holds the number.
-fn grow(q: Queue, number: u64) -> Queue
+pub fn grow(q: Queue, number: u64) -> Queue
     requires { ⌜ q .count < 64 ⌝ }
     ensures { λ r. ⌜ r ≡ grown q number ⌝ }
 {

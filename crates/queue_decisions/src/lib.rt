@@ -1,9 +1,10 @@
-// What each step decides, over the fields that it looks at: the refusal of a birth, the ticket that is due, the refusal of an answer,
-// the ticket renewed. The calls by value, on words, recorded and replayed ask here; only their stores differ.
+// What each step decides, over the fields that it looks at: the refusal of a birth, how many of a list are taken, the ticket that is due,
+// the refusal of an answer, the ticket renewed. The calls by value, on words, recorded and replayed ask here; only their stores differ.
 mod answers;
 mod births;
 mod pops;
 mod renewals;
+mod sequences;
 mod slots;
 
 pub use answers::complete_refusal;
@@ -16,3 +17,5 @@ pub use pops::seek;
 pub use renewals::Renewal;
 pub use renewals::retry_allowed;
 pub use renewals::retry_due;
+pub use sequences::Taking;
+pub use sequences::register_taking;
