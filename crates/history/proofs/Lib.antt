@@ -14,3 +14,5 @@ pub mod Rising
 pub mod Lives
 pub mod Fitting
 pub mod WordLogs
+pub mod ListMade
+pub mod ListedSame

@@ -1,3 +1,4 @@
 pub mod Histories
 pub mod Fits
 pub mod Benches
+pub mod ListedHistories
