@@ -14,6 +14,7 @@ use Rattle.group_check.specs.declared.ids.Spot.{Spot}
 use Rattle.group_endings.specs.Endings.{removed}
 use Rattle.group_endings.specs.declared.endings.CloseAnswer.{CloseAnswer}
 use Rattle.group_steps.specs.Births.{registeredAt, registeredIn, landedAt, landedIn}
+use Rattle.group_steps.specs.Sequences.{registeredAllAt, registeredAllIn}
 use Rattle.group_steps.specs.Attempts.{poppedAt, poppedIn, completedAt, completedIn, retriedAt, retriedIn}
 use Rattle.group_stages.specs.Stages.{admittedAt, admittedIn, admittedAtWithout, admittedInWithout, endedAt, endedIn, cancelledAt, cancelledIn}
 use Rattle.group_rounds.specs.Rounds.{allRetried}
@@ -56,6 +57,10 @@ module _ (g : Groups) (l : length (g .places) ≡ 16) (id : ℕ) where
   pub land-frame : (n : ℕ) → Frame g (landedIn g id n .groups)
   unfolding landedIn
   land-frame n = framed (λ s. landedAt g n s .groups) _ (λ _. refl) (λ _. refl)
+
+  pub register-all-frame : (numbers : List ℕ) → Frame g (registeredAllIn g id numbers .groups)
+  unfolding registeredAllIn
+  register-all-frame numbers = framed (λ s. registeredAllAt g numbers s .groups) _ (λ _. refl) (λ _. refl)
 
   pub pop-frame : Frame g (poppedIn g id .groups)
   unfolding poppedIn

@@ -20,3 +20,5 @@ pub mod Room
 pub mod Counts
 pub mod Says
 pub mod SaysById
+pub mod InTurn
+pub mod WholeLists

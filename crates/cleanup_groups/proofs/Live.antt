@@ -19,6 +19,7 @@ use Rattle.queue_questions.specs.Questions.{yesOrNo, matches, isCancelledTold, 
 use Rattle.queue_questions.specs.declared.questions.Told.{Told}
 use Rattle.queue_questions.specs.declared.questions.DomainTold.{DomainTold}
 use Rattle.queue_births.specs.Births.{registered, landed}
+use Rattle.queue_births.specs.Sequences.{registeredAll}
 use Rattle.queue_steps.specs.Attempts.{popped, completed, retried}
 use Rattle.queue_stages.specs.Stages.{admitted, ended, cancelledBy}
 use Rattle.cleanup_queue.proofs.Finish.{yes-asked}
@@ -38,6 +39,7 @@ use Rattle.group_endings.specs.Endings.{removedAt, removed}
 use Rattle.group_endings.specs.declared.endings.Closed.the-variants.{Done}
 use Rattle.group_endings.specs.declared.endings.CloseAnswer.{CloseAnswer}
 use Rattle.group_steps.specs.Births.{bornAt, registeredAt, registeredIn, landedAt, landedIn}
+use Rattle.group_steps.specs.Sequences.{tookAt, registeredAllAt, registeredAllIn}
 use Rattle.group_steps.specs.Attempts.{handedAt, poppedAt, poppedIn, settledAt, completedAt, completedIn, renewedAt, retriedAt, retriedIn}
 use Rattle.group_stages.specs.Stages.{movedAt, admittedAt, admittedIn, admittedAtWithout, admittedInWithout, endedAt, endedIn, stoppedAt, cancelledAt, cancelledIn}
 use Rattle.cleanup_groups.specs.Promises.{LiveAt, idAt, IsLive, Sound, DrainedQueue}
@@ -91,6 +93,10 @@ module _ (g : Groups) (id i : ℕ) (l : length (g .places) ≡ 16) (w : wellGrou
   pub land-as : (number : ℕ) → landedIn g id number ≡ bornAt g i (landed (queueAt g i) number)
   unfolding landedIn
   land-as number = ap (landedAt g number) spot
+
+  pub register-all-as : (numbers : List ℕ) → registeredAllIn g id numbers ≡ tookAt g i (registeredAll (queueAt g i) numbers)
+  unfolding registeredAllIn
+  register-all-as numbers = ap (registeredAllAt g numbers) spot
 
   pub pop-as : poppedIn g id ≡ handedAt g i (popped (queueAt g i))
   unfolding poppedIn

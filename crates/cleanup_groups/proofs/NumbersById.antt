@@ -14,9 +14,12 @@ use Rattle.queue_record.specs.declared.search.Found.{Found}
 use Rattle.queue_record.specs.declared.search.Found.the-variants.{At, Missing}
 use Rattle.queue_questions.specs.Questions.{matches, isCancelledTold, domainTold}
 use Rattle.queue_questions.specs.declared.questions.Told.{Told}
+use Rattle.queue_births.specs.Sequences.{registeredAll}
 use Rattle.cleanup_queue.specs.Answers.{registeredSays, poppedSays, completedSays, retriedSays, toldSays, cancelledSays, domainSays}
 use Rattle.cleanup_queue.specs.Orders.{Ground, firstDue, registerOrder, landOrder, popOrder, completeOrder, retryOrder, brokenOnly}
+use Rattle.cleanup_queue.specs.WholeLists.{registerAllOrder}
 use Rattle.cleanup_queue.proofs.Numbers as queue
+use Rattle.cleanup_queue.proofs.ListLaws.{all-number}
 use Rattle.group_record.specs.Record.{queueAt}
 use Rattle.group_asking.specs.Scan.{firstYes, someYes}
 use Rattle.group_check.specs.WellFormed.{wellGrouped}
@@ -29,10 +32,12 @@ use Rattle.group_questions.specs.ById.{toldBy, domainBy, domainIn, negation, is
 use Rattle.group_survey.specs.Whole.{toldOf, retriesAll, lenOf}
 use Rattle.group_survey.specs.declared.whole.LenTold.{LenTold}
 use Rattle.group_steps.specs.Births.{registeredAt, registeredIn, landedAt, landedIn}
+use Rattle.group_steps.specs.Sequences.{registeredAllAt, registeredAllIn}
 use Rattle.group_steps.specs.Attempts.{poppedAt, poppedIn, completedAt, completedIn, retriedAt, retriedIn}
 use Rattle.group_stages.specs.Stages.{admittedAt, admittedIn, admittedAtWithout, admittedInWithout, endedAt, endedIn, cancelledAt, cancelledIn}
 use Rattle.group_rounds.specs.Rounds.{retriedAll}
 use Rattle.group_steps.specs.declared.births.GroupRegisterAnswer.{GroupRegisterAnswer}
+use Rattle.group_steps.specs.declared.sequences.GroupRegisterAllAnswer.{GroupRegisterAllAnswer}
 use Rattle.group_steps.specs.declared.attempts.GroupPopAnswer.{GroupPopAnswer}
 use Rattle.group_steps.specs.declared.attempts.GroupCompleteAnswer.{GroupCompleteAnswer}
 use Rattle.group_steps.specs.declared.attempts.GroupRetryAnswer.{GroupRetryAnswer}
@@ -62,6 +67,13 @@ module _ (g : Groups) (id : ℕ) where
   pub land-number : (n : ℕ) → registeredSays (landedIn g id n .answer) .number ≡ firstDue (stepOrder g id (λ q. landOrder q n))
   unfolding landedIn
   land-number n = step-number (λ (r : GroupRegisterAnswer). registeredSays (r .answer) .number) (landedAt g n) (λ q. landOrder q n) (λ _. refl) (λ i. queue.land-number (queueAt g i) n)
+
+  -- of a whole list: 1, 10, then the number of the register of the next one, behind those that were taken
+  pub register-all-number : (numbers : List ℕ) → registeredAllIn g id numbers .answer .refusal ≡ firstDue (stepOrder g id (λ q. registerAllOrder q numbers (registeredAll q numbers .answer .taken)))
+  unfolding registeredAllIn
+  register-all-number numbers =
+      step-number (λ (r : GroupRegisterAllAnswer). r .answer .refusal) (registeredAllAt g numbers) (λ q. registerAllOrder q numbers (registeredAll q numbers .answer .taken))
+      (λ _. refl) (λ i. all-number (queueAt g i) numbers)
 
   pub pop-number : poppedSays (poppedIn g id .answer) .number ≡ firstDue (stepOrder g id popOrder)
   unfolding poppedIn

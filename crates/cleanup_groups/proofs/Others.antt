@@ -15,6 +15,7 @@ use Rattle.group_endings.specs.Endings.{removed}
 use Rattle.group_openings.specs.declared.openings.AddAnswer.{AddAnswer}
 use Rattle.group_endings.specs.declared.endings.CloseAnswer.{CloseAnswer}
 use Rattle.group_steps.specs.Births.{registeredAt, registeredIn, landedAt, landedIn}
+use Rattle.group_steps.specs.Sequences.{registeredAllAt, registeredAllIn}
 use Rattle.group_steps.specs.Attempts.{poppedAt, poppedIn, completedAt, completedIn, retriedAt, retriedIn}
 use Rattle.group_stages.specs.Stages.{admittedAt, admittedIn, admittedAtWithout, admittedInWithout, endedAt, endedIn, cancelledAt, cancelledIn}
 use Rattle.cleanup_groups.specs.Promises.{LiveAt, idAt}
@@ -41,6 +42,10 @@ module _ (g : Groups) (l : length (g .places) ≡ 16) (j : ℕ) where
     pub land-others : (number : ℕ) → Stays (landedIn g id number .groups)
     unfolding landedIn
     land-others number = by-id (λ s. landedAt g number s .groups) (λ _. refl) (λ i e. aside i _ e)
+
+    pub register-all-others : (numbers : List ℕ) → Stays (registeredAllIn g id numbers .groups)
+    unfolding registeredAllIn
+    register-all-others numbers = by-id (λ s. registeredAllAt g numbers s .groups) (λ _. refl) (λ i e. aside i _ e)
 
     pub pop-others : Stays (poppedIn g id .groups)
     unfolding poppedIn

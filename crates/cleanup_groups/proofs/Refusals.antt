@@ -43,7 +43,7 @@ set-same (p ∷ ps) zero = refl
 set-same (p ∷ ps) (suc i) = ap (λ (l : List Place). p ∷ l) (set-same ps i)
 
 module _ (g : Groups) where
-  put-back : (i : ℕ) (q : Queue) → q ≡ queueAt g i → withQueue g i q ≡ g
+  pub put-back : (i : ℕ) (q : Queue) → q ≡ queueAt g i → withQueue g i q ≡ g
   put-back i q e = ap (withQueue g i) e ∙ ap (withPlaces g) (set-same (g .places) i)
 
   -- ---- steps

@@ -1,4 +1,5 @@
 pub mod Promises
 pub mod Runs
+pub mod Sequences
 pub mod Answers
 pub mod Orders

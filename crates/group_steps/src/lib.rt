@@ -1,6 +1,7 @@
 // The steps of a group, by its id: each is the step of its queue, and no other place changes.
 mod attempts;
 mod births;
+mod sequences;
 
 pub use attempts::GroupCompleteAnswer;
 pub use attempts::GroupPopAnswer;
@@ -11,3 +12,5 @@ pub use attempts::retry;
 pub use births::GroupRegisterAnswer;
 pub use births::land;
 pub use births::register;
+pub use sequences::GroupRegisterAllAnswer;
+pub use sequences::register_all;
