@@ -7,9 +7,9 @@
 
    Null. A pointer is not null. Only that of a list or a log of no words (count or words is 0) may be: nothing is read or written there.
 
-   Overlap. In every call, questions too, no two of queue, answer, log and *used share a word. A ticket, bindings or a target may lie
-   anywhere, inside these too: all of it is read before the first word is written, which is seen in the code and tried, since the proofs
-   give each list memory of its own. So the ticket may be
+   Overlap. In every call, questions too, no two of queue, answer, log and *used share a word. A ticket, bindings, a target or the
+   numbers of register_all may lie anywhere, inside these too: all of it is read before the first word is written, which is seen in the
+   code and tried, since the proofs give each list memory of its own. So the ticket may be
    `answer + GULBERZAN_WORK_DOMAIN` as pop left it, or `queue + GULBERZAN_TICKET_DOMAIN`, and the bindings
    `queue + GULBERZAN_FIRST_BINDING`. The log that gulberzan_read reads lies apart from what it writes.
 
@@ -27,7 +27,7 @@ extern "C" {
 
 /* The first rises if a program has to be changed, the second if there is something more. */
 #define GULBERZAN_VERSION_MAJOR 2
-#define GULBERZAN_VERSION_MINOR 0
+#define GULBERZAN_VERSION_MINOR 1
 
 /* What a compiler may know: which pointers are never null (by their places, from 1), that a call does not throw, and,
    of a call that can be refused, that its result is to be looked at. */
@@ -118,6 +118,10 @@ enum gulberzan_birth_case { /* register, land */
     GULBERZAN_BIRTH_REFUSED = GULBERZAN_CASE_REFUSED,
     GULBERZAN_BIRTH_TOKEN = GULBERZAN_CASE_DONE
 };
+enum gulberzan_register_all_case { /* how many were taken is the value of both */
+    GULBERZAN_REGISTER_ALL_REFUSED = GULBERZAN_CASE_REFUSED,
+    GULBERZAN_REGISTER_ALL_DONE = GULBERZAN_CASE_DONE
+};
 enum gulberzan_pop_case {
     GULBERZAN_POP_REFUSED = GULBERZAN_CASE_REFUSED,
     GULBERZAN_POP_NOTHING = GULBERZAN_CASE_NOTHING,
@@ -173,8 +177,8 @@ enum gulberzan_row {
 
 /* Every call that takes an answer writes all of it: case 0 with a refusal, and 0 where a case has fewer values. All of them but
    the reader refuse words that are no well-formed record with 1, first. A refusal leaves queue, log and *used as
-   they were, but for an opening (14) and the reader. A count of 0 is an empty list: as a target it has no members, which is not the
-   same as no target. */
+   they were, but for an opening (14), the reader, and register_all: what it took before the refused number stays. A count of 0 is an
+   empty list: as a target it has no members, which is not the same as no target. */
 
 /* Opens a scope in queue, whatever stood there; its result is always 0. */
 GULBERZAN_CALL(1)
@@ -199,6 +203,14 @@ uint64_t gulberzan_register(uint64_t queue[GULBERZAN_QUEUE_WORDS], uint64_t numb
 GULBERZAN_CALL(1, 3) GULBERZAN_LOOK
 uint64_t gulberzan_land(uint64_t queue[GULBERZAN_QUEUE_WORDS], uint64_t number,
                         uint64_t answer[GULBERZAN_ANSWER_WORDS]);
+
+/* Registers the numbers of a list, however long, one after the other, as so many calls of gulberzan_register, up to the first that is
+   refused; case 1: how many there are. Refused 1, which is checked of an empty list too: 0; 2, 3: how many were taken, which is the
+   refused one's place in the list, from 0. Their tokens count up from the word GULBERZAN_TOKENS_ISSUED as it was before. The list stays,
+   unless it lies inside what is written: then it is written over. */
+GULBERZAN_CALL(1, 4) GULBERZAN_LOOK
+uint64_t gulberzan_register_all(uint64_t queue[GULBERZAN_QUEUE_WORDS], const uint64_t *numbers, size_t count,
+                                uint64_t answer[GULBERZAN_ANSWER_WORDS]);
 
 /* Hands out the ready ticket, which retry renewed, or else a fresh one for the newest waiting undo number; case 1: Nothing;
    case 2: domain, token, attempt, undo number. Refused 1, 5; 9 is never given. */
@@ -272,7 +284,8 @@ GULBERZAN_CALL(1, 2) GULBERZAN_LOOK
 uint64_t gulberzan_domain(const uint64_t queue[GULBERZAN_QUEUE_WORDS], uint64_t answer[GULBERZAN_ANSWER_WORDS]);
 
 /* The recorded calls answer as those above. One that changes the queue writes a row behind the *used rows of log, which is
-   `words` words long, and raises *used by 1; without room it is refused with 17, last. Used rows that don't fit get 1, first. */
+   `words` words long, and raises *used by 1, register_all for each number that it takes; without room it is refused with 17, last. Used
+   rows that don't fit get 1, first. */
 
 /* Register, recorded. */
 GULBERZAN_CALL(1, 5, 6) GULBERZAN_LOOK
@@ -283,6 +296,12 @@ uint64_t gulberzan_register_recorded(uint64_t queue[GULBERZAN_QUEUE_WORDS], uint
 GULBERZAN_CALL(1, 5, 6) GULBERZAN_LOOK
 uint64_t gulberzan_land_recorded(uint64_t queue[GULBERZAN_QUEUE_WORDS], uint64_t number, uint64_t *log, size_t words,
                                  uint64_t *used, uint64_t answer[GULBERZAN_ANSWER_WORDS]);
+
+/* Register_all, recorded; without room for the next number's row 17, unless 2 or 3 refuses that number. An empty list never gets 17. */
+GULBERZAN_CALL(1, 6, 7) GULBERZAN_LOOK
+uint64_t gulberzan_register_all_recorded(uint64_t queue[GULBERZAN_QUEUE_WORDS], const uint64_t *numbers, size_t count,
+                                         uint64_t *log, size_t words, uint64_t *used,
+                                         uint64_t answer[GULBERZAN_ANSWER_WORDS]);
 
 /* Pop, recorded; Nothing writes no row. */
 GULBERZAN_CALL(1, 4, 5) GULBERZAN_LOOK

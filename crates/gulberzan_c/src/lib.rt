@@ -8,5 +8,6 @@ mod reading;
 mod recorded_attempts;
 mod recorded_births;
 mod recorded_stages;
+mod sequences;
 mod stages;
 mod told;

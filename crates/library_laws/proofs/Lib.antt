@@ -2,6 +2,8 @@ pub mod Sounds
 pub mod OneAnswer
 pub mod Says
 pub mod AsCalls
+pub mod WholeLists
 pub mod Sessions
+pub mod ListCalls
 pub mod Carried
 pub mod NeverOne

@@ -43,6 +43,7 @@ use Rattle.library_laws.specs.Results.{madeBy, WordQuestion, wordsEmpty,
 use Rattle.library_laws.specs.Results.{askedOn, Returned, IsOne}
 use Rattle.library_laws.proofs.Sounds.{callOf}
 use Rattle.library_laws.proofs.Says.{born-tells, pop-tells, complete-tells, retry-tells, told-number, cancel-tells, domain-tells}
+use Rattle.library_laws.proofs.WholeLists.{all-never, all-logged-alone}
 use Rattle.library_laws.proofs.Sessions.{logged-is, from, session-sound}
 
 -- ---- an order of refusals without 1
@@ -166,7 +167,9 @@ one-exactly : (s : Session) → isSound (s .words) ≡ true → (c : LibraryCall
 one-exactly s h (LibraryCall.opensScope domain first) n r = (λ e. open-never (openingOf (headingOf Scope domain first) []) (sym (r .1 .number) ∙ e), λ z. absurd z)
 one-exactly s h (LibraryCall.opensIterator domain first bindings) n r = (λ e. open-never (openingOf (headingOf Iterator domain first) bindings) (sym (r .1 .number) ∙ e), λ z. absurd z)
 one-exactly s h (LibraryCall.makes c) n r = (λ e. made-never (s .words) h c (sym r ∙ e), λ z. absurd z)
+one-exactly s h (LibraryCall.registersAll ns) n r = (λ e. all-never (s .words) ns h (sym r ∙ e), λ z. absurd z)
 one-exactly s h (LibraryCall.records c) n r = let v = logged-alone (s .words) h (s .log) (s .used) c in (λ e. v .0 (sym r ∙ e), λ f. r ∙ v .1 f)
+one-exactly s h (LibraryCall.recordsAll ns) n r = let v = all-logged-alone s ns h in (λ e. v .0 (sym r ∙ e), λ f. r ∙ v .1 f)
 one-exactly s h (LibraryCall.reads kind domain first bindings log) n r =
     let v = read-alone (s .words) kind domain first bindings log (r .0) (r .1) in
     (λ e. v .0 (sym (r .2) ∙ e), λ f. r .2 ∙ v .1 f)

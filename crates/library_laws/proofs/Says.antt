@@ -5,6 +5,7 @@ use mathlib.Core.Bool.{Bool, true, false}
 use mathlib.Core.List.{List}
 use Rattle.queue_record.specs.declared.openings.Opened.{Opened}
 use Rattle.queue_births.specs.declared.births.Registered.{Registered}
+use Rattle.queue_births.specs.declared.sequences.RegisteredAll.{RegisteredAll}
 use Rattle.queue_steps.specs.declared.attempts.Popped.{Popped}
 use Rattle.queue_steps.specs.declared.attempts.Completed.{Completed}
 use Rattle.queue_steps.specs.declared.attempts.Retried.{Retried}
@@ -13,10 +14,11 @@ use Rattle.queue_questions.specs.declared.questions.Told.{Told}
 use Rattle.queue_questions.specs.declared.questions.DomainTold.{DomainTold}
 use Rattle.queue_stages.specs.declared.stages.Cancelled.{Cancelled}
 use Rattle.cleanup_queue.specs.Answers.{openedSays, registeredSays, poppedSays, completedSays, retriedSays, toldSays, cancelledSays, domainSays}
+use Rattle.cleanup_queue.specs.WholeLists.{registeredAllSays}
 use Rattle.log_reader.specs.Reader.{readSays}
 use Rattle.log_reader.specs.declared.reading.Read.{Read}
 use Rattle.queue_words.specs.Words.{word}
-use Rattle.queue_words.specs.Exported.{openNumber, bornSaid, popSaid, completeSaid, retrySaid, toldSaid, cancelSaid, domainSaid}
+use Rattle.queue_words.specs.Exported.{openNumber, bornSaid, bornAllSaid, popSaid, completeSaid, retrySaid, toldSaid, cancelSaid, domainSaid}
 use Rattle.gulberzan_c.specs.ReadBack.{readSaid}
 use Rattle.library_laws.specs.Values.{TellsWords}
 
@@ -28,6 +30,9 @@ module _ (ws : List ℕ) where
   pub born-tells : (a : Registered) → TellsWords (bornSaid a ws) (registeredSays a)
   born-tells (Registered.Token t) = record { number = refl; values = refl }
   born-tells (Registered.Refused n given) = record { number = refl; values = refl }
+
+  pub all-tells : (a : RegisteredAll) → TellsWords (bornAllSaid a ws) (registeredAllSays a)
+  all-tells a = record { number = refl; values = refl }
 
   pub pop-tells : (a : Popped) → TellsWords (popSaid a ws) (poppedSays a)
   pop-tells (Popped.Work t n) = record { number = refl; values = refl }

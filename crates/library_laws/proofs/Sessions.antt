@@ -43,11 +43,15 @@ use Rattle.history.specs.Histories.{Bench, bench, Outcome, outcome, recorded, c
 use Rattle.history.proofs.Written.{benches, refused-stays, accepted-is}
 use Rattle.history.proofs.Spoken.{Stands, stands}
 use Rattle.history.proofs.Accepts.{history-read}
+use Rattle.history.proofs.Computed.{made-history}
+use Rattle.history.proofs.ListMade.{list-made}
+use Rattle.history.specs.ListedHistories.{listedTo}
 use Rattle.gulberzan_c.specs.ReadBack.{ReadOn, noKind, readBack, readSaid}
 use Rattle.library_laws.specs.CallWords.{WordCall}
 use Rattle.library_laws.specs.Sessions.{Session, session, loggedBy, loggedTo, LibraryCall, opensScope, opensIterator, openingBy}
-use Rattle.library_laws.specs.Sessions.{sessionAfter, sessionAfterAll, Recorder, begins, goesOn, usedWords}
+use Rattle.library_laws.specs.Sessions.{sessionAfter, sessionAfterAll, Recorder, begins, goesOn, takesAll, usedWords, loggedAll}
 use Rattle.library_laws.proofs.Sounds.{callOf, born-words, pop-words, complete-words, retry-words, told-words, cancel-words, sound-after, scope-sound, iterator-sound}
+use Rattle.library_laws.proofs.WholeLists.{all-sound, all-logged-sound, all-logged-to}
 use Rattle.library_laws.proofs.Says.{born-tells, pop-tells, complete-tells, retry-tells, told-number, cancel-tells}
 
 -- ---- an exported recorded call on words that encode a record is the bench's recorded call on that record
@@ -146,7 +150,9 @@ session-step : (s : Session) → isSound (s .words) ≡ true → (c : LibraryCal
 session-step s h (opensScope domain first) = scope-sound domain first
 session-step s h (opensIterator domain first bindings) = iterator-sound domain first bindings
 session-step s h (LibraryCall.makes c) = sound-after (s .words) h c
+session-step s h (LibraryCall.registersAll ns) = all-sound (s .words) ns h
 session-step s h (LibraryCall.records c) = logged-sound s h c
+session-step s h (LibraryCall.recordsAll ns) = all-logged-sound s ns h
 session-step s h (LibraryCall.reads kind domain first bindings log) =
     if-by (λ (t : Session). isSound (t .words) ≡ true) (ltb 1 kind) _ _ (λ _. h)
     (λ _. read-sound (openingBy kind domain first bindings) log)
@@ -182,22 +188,47 @@ pub record Lived (o : Opening) (memory : List ℕ) (s : Session) : Type 0 where
   pub log : s .log ≡ bench .log
   pub used : s .used ≡ bench .used
 
+-- its words are sound, and the bench is read off them
+module _ (o : Opening) (memory : List ℕ) (s : Session) (l : Lived o memory s) where
+  abbrev start : Start
+  start = record { opening = o; memory = memory }
+
+  lived-stands : Stands start (l .bench)
+  lived-stands = stands start (l .bench) (l .history)
+
+  lived-encodes : encodes (s .words) ≡ true
+  lived-encodes = sound-encodes (s .words) (ap isSound (l .words) ∙ record-sound (l .bench .queue) (lived-stands .sized) (lived-stands .sound))
+
+  lived-bench : from (s .words) lived-encodes (s .log) (s .used) ≡ l .bench
+  lived-bench = benches (ap queueOf (l .words) ∙ queue-again (l .bench .queue) (lived-stands .sized)) (l .used) (l .log)
+
+  lived-history : History start (from (s .words) lived-encodes (s .log) (s .used))
+  lived-history = subst (History start) (sym lived-bench) (l .history)
+
 lived : (o : Opening) (memory : List ℕ) (s : Session) → Recorder o memory s → Lived o memory s
 lived o memory _ (begins e) = record { bench = bench (openedAs o .queue) 0 memory; history = opens e; words = refl; log = refl; used = refl }
 lived o memory _ (goesOn {s} r c h) =
     let l : Lived o memory s = lived o memory s r in
-    let st : Start = record { opening = o; memory = memory } in
-    let i : Stands st (l .bench) = stands st (l .bench) (l .history) in
-    let sound : isSound (s .words) ≡ true = ap isSound (l .words) ∙ record-sound (l .bench .queue) (i .sized) (i .sound) in
-    let e : bench (queueOf (s .words)) (s .used) (s .log) ≡ l .bench = benches (ap queueOf (l .words) ∙ queue-again (l .bench .queue) (i .sized)) (l .used) (l .log) in
-    let m = logged-is (s .words) (sound-encodes (s .words) sound) (s .log) (s .used) c in
-    let b : Bench = bench (queueOf (s .words)) (s .used) (s .log) in
+    let e : encodes (s .words) ≡ true = lived-encodes o memory s l in
+    let m = logged-is (s .words) e (s .log) (s .used) c in
     record {
-      bench = called b (callOf (s .words) c);
-      history = calls (subst (λ (x : Bench). History st x) (sym e) (l .history)) (callOf (s .words) c) (sym (m .3) ∙ h);
+      bench = called (from (s .words) e (s .log) (s .used)) (callOf (s .words) c);
+      history = calls (lived-history o memory s l) (callOf (s .words) c) (sym (m .3) ∙ h);
       words = m .0;
       log = m .1;
       used = m .2;
+    }
+lived o memory _ (takesAll {s} r ns) =
+    let l : Lived o memory s = lived o memory s r in
+    let e : encodes (s .words) ≡ true = lived-encodes o memory s l in
+    let m : loggedTo (loggedAll s ns) ≡ _ = all-logged-to s ns e in
+    let b : Bench = from (s .words) e (s .log) (s .used) in
+    record {
+      bench = listedTo b ns;
+      history = made-history (lived-history o memory s l) (list-made b ns);
+      words = ap (λ (t : Session). t .words) m;
+      log = ap (λ (t : Session). t .log) m;
+      used = ap (λ (t : Session). t .used) m;
     }
 
 -- of the log that recorded calls left the reader says: good, all the rows, and the record that the words encode

@@ -10,8 +10,9 @@ use Rattle.queue_record.specs.Openings.{Opening, headingOf, openingOf, scopeOpe
 use Rattle.queue_record.specs.declared.openings.Opened.{Opened}
 use Rattle.log_reader.specs.Walk.{readFrom}
 use Rattle.queue_words.specs.Words.{kindAt, wordsOf}
+use Rattle.queue_words.specs.Exported.{registerAllOn}
 use Rattle.gulberzan_c.specs.Recorded.{Recorded, registerRecordedOn, landRecordedOn, popRecordedOn, completeRecordedOn, retryRecordedOn}
-use Rattle.gulberzan_c.specs.Recorded.{admitRecordedOn, admitWithoutRecordedOn, endRecordedOn, cancelRecordedOn}
+use Rattle.gulberzan_c.specs.Recorded.{admitRecordedOn, admitWithoutRecordedOn, endRecordedOn, cancelRecordedOn, registerAllRecordedOn}
 use Rattle.library_laws.specs.CallWords.{WordCall, wordsAfter}
 
 pub record Session : Type 0 where
@@ -34,15 +35,22 @@ loggedBy s WordCall.admitWithout = admitWithoutRecordedOn (s .words) (s .log) (s
 loggedBy s WordCall.end = endRecordedOn (s .words) (s .log) (s .used)
 loggedBy s WordCall.cancel = cancelRecordedOn (s .words) (s .log) (s .used)
 
+-- and that of a whole list
+abbrev pub loggedAll : Session → List ℕ → Recorded
+loggedAll s numbers = registerAllRecordedOn (s .words) numbers (s .log) (s .used)
+
 abbrev pub loggedTo : Recorded → Session
 loggedTo r = session (r .call .words) (r .log) (r .used)
 
--- any call of the library that writes a queue's words: an opening, a call, a recorded call, or the reader with another log
+-- any call of the library that writes a queue's words: an opening, a call, a recorded call, either with a whole list, or the reader with
+-- another log
 pub data LibraryCall : Type 0 where
   opensScope : ℕ → ℕ → LibraryCall
   opensIterator : ℕ → ℕ → List ℕ → LibraryCall
   makes : WordCall → LibraryCall
+  registersAll : List ℕ → LibraryCall
   records : WordCall → LibraryCall
+  recordsAll : List ℕ → LibraryCall
   reads : ℕ → ℕ → ℕ → List ℕ → List ℕ → LibraryCall
 
 -- the opening that a kind's number, a domain, a first attempt and bindings are
@@ -53,7 +61,9 @@ abbrev pub sessionAfter : Session → LibraryCall → Session
 sessionAfter s (opensScope domain first) = session (wordsOf (scopeOpened domain first .queue)) (s .log) (s .used)
 sessionAfter s (opensIterator domain first bindings) = session (wordsOf (iteratorOpened domain first bindings .queue)) (s .log) (s .used)
 sessionAfter s (makes c) = session (wordsAfter (s .words) c) (s .log) (s .used)
+sessionAfter s (registersAll numbers) = session (registerAllOn (s .words) numbers .words) (s .log) (s .used)
 sessionAfter s (records c) = loggedTo (loggedBy s c)
+sessionAfter s (recordsAll numbers) = loggedTo (loggedAll s numbers)
 sessionAfter s (reads kind domain first bindings log) =
     if ltb 1 kind then s else session (wordsOf (readFrom (openedAs (openingBy kind domain first bindings)) log .queue)) (s .log) (s .used)
 
@@ -61,10 +71,17 @@ abbrev pub sessionAfterAll : Session → List LibraryCall → Session
 sessionAfterAll s [] = s
 sessionAfterAll s (c ∷ cs) = sessionAfterAll (sessionAfter s c) cs
 
--- a session of recorded calls from an opening that was not refused, used count 0, any log memory, each call accepted
+-- a register for each number, plain or recorded
+abbrev pub registersEach : (WordCall → LibraryCall) → List ℕ → List LibraryCall
+registersEach form [] = []
+registersEach form (number ∷ numbers) = form (WordCall.register number) ∷ registersEach form numbers
+
+-- a session of recorded calls from an opening that was not refused, used count 0, any log memory, each call accepted, and each whole list
+-- with whatever it answers
 pub data Recorder (o : Opening) (memory : List ℕ) : Session → Type 0 where
   begins : openedAs o .answer ≡ Opened.Open → Recorder o memory (session (wordsOf (openedAs o .queue)) memory 0)
   goesOn : {s : Session} → Recorder o memory s → (c : WordCall) → loggedBy s c .call .result ≡ done → Recorder o memory (loggedTo (loggedBy s c))
+  takesAll : {s : Session} → Recorder o memory s → (numbers : List ℕ) → Recorder o memory (loggedTo (loggedAll s numbers))
 
 -- the words of the log's used rows
 abbrev pub usedWords : Session → List ℕ

@@ -3,16 +3,20 @@ use Prim.Native.Nat.{ℕ}
 use mathlib.Core.Path.{_≡_}
 use mathlib.Core.Bool.{Bool, not, false}
 use mathlib.Core.List.{List, [], _∷_}
+use lib.Dec.{eqb}
 use Rattle.choice.specs.Choice.{if_then_else_}
 use Rattle.queue_record.specs.Refusals.{done, broken}
 use Rattle.queue_record.specs.declared.openings.Opened.{Opened}
 use Rattle.queue_record.specs.declared.openings.Opened.the-variants.{Open}
 use Rattle.queue_record.specs.declared.openings.OpenAnswer.{OpenAnswer}
 use Rattle.queue_births.specs.Births.{registered, landed}
+use Rattle.queue_births.specs.Sequences.{registeredAll}
 use Rattle.queue_steps.specs.Attempts.{popped, completed, retried}
 use Rattle.queue_births.specs.declared.births.Registered.{Registered}
 use Rattle.queue_births.specs.declared.births.Registered.the-variants.{Token}
 use Rattle.queue_births.specs.declared.births.RegisterAnswer.{RegisterAnswer}
+use Rattle.queue_births.specs.declared.sequences.RegisteredAll.{RegisteredAll}
+use Rattle.queue_births.specs.declared.sequences.RegisterAllAnswer.{RegisterAllAnswer}
 use Rattle.queue_steps.specs.declared.attempts.Popped.{Popped}
 use Rattle.queue_steps.specs.declared.attempts.Popped.the-variants.{Work, Nothing}
 use Rattle.queue_steps.specs.declared.attempts.PopAnswer.{PopAnswer}
@@ -78,6 +82,19 @@ registerOn ws number = onRecord ws number (bornExported (registered (queueOf ws)
 
 unfoldable pub landOn : List ℕ → ℕ → Exported
 landOn ws number = onRecord ws number (bornExported (landed (queueOf ws) number))
+
+-- ---- register of a whole list: how many were taken, with a refusal too
+abbrev pub bornAllCase : ℕ → ℕ
+bornAllCase refusal = if eqb refusal 0 then 1 else 0
+
+abbrev pub bornAllSaid : RegisteredAll → List ℕ → Exported
+bornAllSaid r ws = exported (r .refusal) (answerOf (bornAllCase (r .refusal)) (r .taken)) ws
+
+abbrev pub bornAllExported : RegisterAllAnswer → Exported
+bornAllExported r = bornAllSaid (r .answer) (wordsOf (r .queue))
+
+unfoldable pub registerAllOn : List ℕ → List ℕ → Exported
+registerAllOn ws numbers = onRecord ws 0 (bornAllExported (registeredAll (queueOf ws) numbers))
 
 -- ---- pop, complete, retry
 abbrev pub popSaid : Popped → List ℕ → Exported

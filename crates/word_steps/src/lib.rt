@@ -4,6 +4,7 @@ mod complete;
 mod openings;
 mod pop;
 mod retry;
+mod sequences;
 
 pub use births::grow;
 pub use births::grow_landed;
@@ -26,3 +27,5 @@ pub use retry::again_in;
 pub use retry::renew;
 pub use retry::retry_by;
 pub use retry::retry_in;
+pub use sequences::register_all_by;
+pub use sequences::register_all_in;
