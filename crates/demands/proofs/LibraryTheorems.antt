@@ -182,7 +182,9 @@ session-steps s (LibraryCall.opensIterator domain first bindings) t = (
 session-steps s (LibraryCall.makes c) t =
     let m = ap (λ (ws : List ℕ). session ws (s .log) (s .used)) (after-made (s .words) c) in
     (λ h. h ∙ sym m, λ e. e ∙ m)
+session-steps s (LibraryCall.registersAll ns) t = (λ h. h, λ e. e)
 session-steps s (LibraryCall.records c) t = (λ h. h, λ e. e)
+session-steps s (LibraryCall.recordsAll ns) t = (λ h. h, λ e. e)
 session-steps s (LibraryCall.reads kind domain first bindings log) t = (
   λ h. h .2 ∙ read-steps s kind domain first bindings log (h .0) (h .1),
   λ e. let x = read-on-some (s .words) kind domain first bindings log in (x .0, x .1, e ∙ sym (read-steps s kind domain first bindings log (x .0) (x .1))),

@@ -33,6 +33,9 @@ use Rattle.cleanup_queue.proofs.Waits.{admit-keeps-waiting, end-keeps-waiting, 
 use Rattle.cleanup_queue.proofs.Finish.{finish-means, means-finish, finish-with-bindings}
 use Rattle.cleanup_queue.proofs.Keeps.{run-keeps}
 use Rattle.cleanup_queue.proofs.Exactly.{opened-parts, attempts-exactly, tokens-exactly}
+use Rattle.cleanup_queue.proofs.ListLaws.{all-separate, all-tokens, all-number, all-counted, all-done, all-none, all-empty, all-pushes}
+use Rattle.history.proofs.ListMade.{list-made, list-number, list-counted, list-used, list-queue, list-done, list-none, list-empty}
+use Rattle.history.proofs.ListedSame.{listed-history, history-listed, left-same}
 use Rattle.cleanup_log.specs.RecordedOrders.{recordedOrder}
 use Rattle.cleanup_log.specs.Entries.{entryOf}
 use Rattle.cleanup_log.proofs.Changes.{call-changes}
@@ -51,7 +54,9 @@ use Rattle.cleanup_groups.proofs.Numbers.{new-number}
 use Rattle.cleanup_groups.proofs.Counts.{count-none, none-count, scope-counts, iterator-counts, close-counts}
 use Rattle.cleanup_groups.proofs.Sounds.{sound-means, means-sound}
 use Rattle.cleanup_groups.proofs.Keeps as groups
-use Rattle.cleanup_groups.proofs.Live.{accepts-as}
+use Rattle.cleanup_groups.proofs.Live.{accepts-as, register-all-as}
+use Rattle.cleanup_groups.proofs.NumbersById.{register-all-number}
+use Rattle.cleanup_groups.proofs.WholeLists.{groups-broken, groups-none-taken, groups-dead, groups-empty-list, groups-in-turn, groups-done-exactly}
 use Rattle.cleanup_groups.proofs.Ids.{gone-stays, closed-for-good, domains-differ}
 use Rattle.cleanup_groups.proofs.Room.{scope-opens-exactly, iterator-opens-exactly}
 use Rattle.cleanup_groups.proofs.Rounds.{round-no}
@@ -67,6 +72,7 @@ use Rattle.history.proofs.Written.{refused-stays, goes, quiet-stays}
 use Rattle.history.proofs.Accepts.{history-read, bad-read}
 use Rattle.history.proofs.Demand.{same-record}
 use Rattle.history.proofs.WordLogs.{word-logs}
+use Rattle.library_laws.proofs.WholeLists.{all-as-the-call, all-no-record, all-none-words, all-logged-as-the-call, all-no-record-logged, all-none-logged}
 use Rattle.library_laws.proofs.Sounds.{scope-sound, iterator-sound}
 use Rattle.library_laws.proofs.OneAnswer.{read-on-is, read-on-none}
 use Rattle.library_laws.proofs.Sessions.{logged-refused, session-sound, read-back-same}
@@ -184,6 +190,12 @@ demand1 = record {
   givenBackRecorded = λ q log used. (register-recorded-returns q log used, land-recorded-returns q log used, complete-recorded-returns q log used);
   recordedAnswers = recorded-answers;
   refusedRecorded = refused-recorded;
+  listNumber = all-number;
+  listNumberRecorded = list-number;
+  listUnrefused = (all-done, list-done);
+  listKeeps = (all-separate, list-queue, λ g id ns l. groups-in-turn g id l ns);
+  listNoneTaken = (all-none, list-none);
+  listEmpty = (all-empty, list-empty);
   oneNumberRead = reader-number;
   blankRead = reader-blank;
   oneNumberGroups = one-number-groups;
@@ -191,6 +203,10 @@ demand1 = record {
   oneNumberNew = new-number;
   groupsRefusalIsNot0 = (groups-not-refused-with-0, λ base e. new-numbered base done e refl, λ g id e. get-numbered g id done e refl);
   groupsUnchanged = groups-unchanged;
+  listNumberGroups = register-all-number;
+  listUnrefusedGroups = λ g id ns l. groups-done-exactly g id l ns;
+  listNoneTakenGroups = groups-none-taken;
+  listEmptyGroups = groups-empty-list;
   emptyNew = empty-new;
   blankGet = blank-get;
 }
@@ -202,6 +218,9 @@ demand2 = record {
   birthStores = λ q z n. (register-pushes q n z, land-pushes q n z);
   birthLeaves = λ q n. (register-leaves q n .0, register-leaves q n .1, land-leaves q n);
   landMoves = λ q n token h. let m = land-moves q n token h in (m .0, m .3);
+  listTokens = all-tokens;
+  listStores = all-pushes;
+  listCounted = (all-counted, list-counted);
   popLeaves = λ q t number h. (pop-empties q t number h .0, pop-issues q t number h .1, pop-issues q t number h .0, pop-next q t number h);
   popStays = pop-leaves;
   popNothing = idle-pop-keeps;
@@ -239,6 +258,8 @@ demand2 = record {
   acceptsMeans = λ g i p. accepts-as g (idAt g i) i (p .places) (p .sound) (p .inside) (p .live) refl;
   getGives = get-gives;
   noSuchGroup = no-such-group;
+  listOfGroup = λ g i p ns. register-all-as g (idAt g i) i (p .places) (p .sound) (p .inside) (p .live) refl ns;
+  listOfNoGroup = λ g id ns l. (λ w. groups-broken g id w ns, λ w d. groups-dead g id l w d ns);
   otherGroupsStay = other-groups-stay;
   checkMeansSound = λ g l. (sound-means g l, means-sound g l);
   newHasRoot = new-has-root;
@@ -270,13 +291,17 @@ demand3 = record {
   rowsNameChanges = call-changes;
   quietCall = quiet-stays;
   rowIsWritten = λ b c fit room. goes b c (record { fits = fit; room = room });
+  listIsRecorded = list-made;
+  listRows = list-used;
+  listedSame = λ s b. (listed-history, history-listed);
+  sameLogs = left-same;
   everyLogRead = reads-from;
   readerAccepts = reader-language;
   oneReading = reads-one;
   oneSet = word-logs;
-  endState = history-read;
-  stateBefore = bad-read;
-  oneState = same-record;
+  endState = λ s b h. history-read s b (listed-history h);
+  stateBefore = λ s b h. bad-read s b (listed-history h);
+  oneState = λ s t a b e h k. same-record s t a b e (listed-history h) (listed-history k);
 }
 
 pub library-demand : LibraryDemand
@@ -294,6 +319,9 @@ library-demand = record {
   noRecord = no-record;
   noRecordLogged = no-record-logged;
   refusedWords = (made-refused nothing-changed, logged-refused);
+  listAsTheCall = λ ws ns. (all-as-the-call ws ns, all-no-record ws ns);
+  listLoggedAsTheCall = λ s ns. (all-logged-as-the-call s ns, all-no-record-logged s ns);
+  listNoneWords = (all-none-words, all-none-logged);
   sessionSteps = session-steps;
   opensSound = λ s domain first bindings. (scope-sound domain first, iterator-sound domain first bindings);
   neverBroken = session-sound;

@@ -1,5 +1,5 @@
 -- The three demands, and one on the library, a field for each sentence, over the definitions that the contracts of the public calls cite
-use Prim.Native.Nat.{ℕ, _+_, _<_, _≤_}
+use Prim.Native.Nat.{ℕ, _+_, _-_, _<_, _≤_, min}
 use mathlib.Core.Path.{_≡_}
 use mathlib.Core.Logic.{_↔_}
 use mathlib.Core.Bool.{Bool, true, false, not}
@@ -22,6 +22,7 @@ use Rattle.queue_record.specs.declared.record.Queue.{Queue}
 use Rattle.queue_record.specs.declared.openings.Opened.{Opened}
 use Rattle.queue_decisions.specs.Slots.{noMore}
 use Rattle.queue_births.specs.Births.{registered, landed}
+use Rattle.queue_births.specs.Sequences.{tookAs, tookNone, registeredAll}
 use Rattle.queue_steps.specs.Attempts.{slot, popped, completed, retried}
 use Rattle.queue_births.specs.declared.births.Registered.{Registered}
 use Rattle.queue_steps.specs.declared.attempts.Popped.{Popped}
@@ -33,11 +34,12 @@ use Rattle.queue_questions.specs.Questions.{yesOrNo, committed, matches, isEmpt
 use Rattle.queue_questions.specs.declared.questions.Told.the-variants.{Yes}
 use Rattle.cleanup_queue.specs.Answers.{says, openedSays, toldSays}
 use Rattle.cleanup_queue.specs.Marked.{table, definitionSays, paperSays}
-use Rattle.cleanup_queue.specs.Orders.{firstDue, firstSaid, RefusedAs, openingOrder, brokenOnly}
+use Rattle.cleanup_queue.specs.Orders.{due, firstDue, firstSaid, RefusedAs, openingOrder, brokenOnly}
 use Rattle.cleanup_queue.specs.Parts.{OpenedParts, SameOpening, LeavesSelected, Pushes, Appends, Drops, TakesNext, TakesBack, RenewsTo, StaysButPhase}
 use Rattle.cleanup_queue.specs.Promises.{handsOut, mayHandOut, HandedOut, Finishable}
 use Rattle.cleanup_queue.specs.SoundQueues.{SoundQueue}
-use Rattle.cleanup_queue.specs.Runs.{Call, after, afterAll, attempts, tokens, Rising, Counts}
+use Rattle.cleanup_queue.specs.Runs.{Call, after, afterAll, attempts, tokens, Rising, countedFrom, Counts}
+use Rattle.cleanup_queue.specs.WholeLists.{registeredAllSays, registersOf, registerAllOrder, beforeZero, PushesAll}
 use Rattle.group_record.specs.Record.{placeAt, queueAt, freePlace, withPlace, withQueue, withOpened, emptyOf}
 use Rattle.group_record.specs.declared.record.Groups.{Groups}
 use Rattle.group_check.specs.WellFormed.{lastBase, wellGrouped}
@@ -49,14 +51,16 @@ use Rattle.group_survey.specs.Whole.{canRetryAllOf, lenOf}
 use Rattle.group_openings.specs.Openings.{newOf, nextDomain, addedScope, addedIterator}
 use Rattle.group_openings.specs.declared.openings.Added.{Added}
 use Rattle.group_endings.specs.Endings.{removed, sealedIn}
+use Rattle.group_steps.specs.Sequences.{registeredAllIn}
 use Rattle.group_endings.specs.declared.endings.Closed.{Closed}
 use Rattle.group_rounds.specs.Rounds.{retriedAll}
 use Rattle.cleanup_groups.specs.Answers.{lenSays, gotSays}
-use Rattle.cleanup_groups.specs.Orders.{newOrder}
+use Rattle.cleanup_groups.specs.Orders.{newOrder, idOrder, stepOrder}
 use Rattle.cleanup_groups.specs.Promises.{LiveAt, idAt, IsLive, DrainedQueue, RoomToOpen, AddedAs, Frame, Sound}
 use Rattle.cleanup_groups.specs.Runs.{GroupCall, groupsAfter, groupsAfterAll}
+use Rattle.cleanup_groups.specs.Sequences.{registersIn, tookNoneIn}
 use Rattle.log_rows.specs.Rows.{rows, flat, written}
-use Rattle.log_rows.specs.Appending.{rowsFit, hasRoom}
+use Rattle.log_rows.specs.Appending.{rowsFit, hasRoom, freeRows}
 use Rattle.log_births.specs.Births.{registerRecorded, landRecorded}
 use Rattle.log_attempts.specs.Attempts.{completeRecorded}
 use Rattle.log_language.specs.Readings.{every}
@@ -68,14 +72,16 @@ use Rattle.log_reader.specs.declared.reading.Read.{Read}
 use Rattle.log_reader.specs.declared.reading.Reading.{Reading}
 use Rattle.cleanup_log.specs.RecordedOrders.{recordedOrder, readOrder}
 use Rattle.cleanup_log.specs.Entries.{entryOf}
-use Rattle.history.specs.Histories.{Bench, bench, called, numberOf, Start, History, wordsWritten, rowsOf, openedQueue}
+use Rattle.history.specs.Histories.{Bench, bench, called, numberOf, Start, History, Made, wordsWritten, rowsOf, openedQueue}
 use Rattle.history.specs.Fits.{isWord}
 use Rattle.history.specs.Benches.{BenchCall, callOn, WordOpening, LeftIn}
+use Rattle.history.specs.ListedHistories.{listedTo, listAnswer, listOrder, ListedHistory, LeftListed}
 use Rattle.queue_words.specs.InPlace.{soundNumber}
-use Rattle.queue_words.specs.Words.{queueOf, wordsOf, encodes, isSound}
-use Rattle.queue_words.specs.Exported.{Exported, OpensOn}
+use Rattle.queue_words.specs.Layout.{atValue}
+use Rattle.queue_words.specs.Words.{word, queueOf, wordsOf, encodes, isSound}
+use Rattle.queue_words.specs.Exported.{Exported, OpensOn, registerAllOn}
 use Rattle.gulberzan_c.specs.ReadBack.{ReadOn}
-use Rattle.library_laws.specs.Sessions.{Session, LibraryCall, sessionAfter, sessionAfterAll, openingBy, Recorder, usedWords, loggedBy, loggedTo}
+use Rattle.library_laws.specs.Sessions.{Session, LibraryCall, sessionAfter, sessionAfterAll, openingBy, Recorder, usedWords, loggedBy, loggedAll, loggedTo}
 use Rattle.library_laws.specs.Results.{WordQuestion, askedOn, Returned, IsOne, madeBy}
 use Rattle.demands.specs.CallTables.{saidBy, orderOf, givenTo, NotRefusedWith0, RecordedNotRefusedWith0, leftBy, ownValues, phaseLine, QueueQuestion, toldTo, meantBy}
 use Rattle.gulberzan_c.specs.Recorded.{recordedOn}
@@ -87,7 +93,8 @@ use Rattle.demands.specs.CallTables.{LiveGroup}
 use Rattle.demands.specs.RecordedTables.{saidRecorded}
 use Rattle.demands.specs.LibraryTables.{benchOf, formOf, questionOf, formAsked, benchIn, loggedAs, LeavesSession}
 
--- ---- demand 1: every record and every input gets one answer, a refusal has one number, changes nothing and gives the number back.
+-- ---- demand 1: every record and every input gets one answer, a refusal has one number, changes nothing and gives the number back; of a
+-- whole list from the refusal on.
 -- That each call ends, on every input, is what its contract says by asking for nothing
 pub record Demand1 : Type 0 where
   pub oneNumber : (q : Queue) (c : BenchCall) → saidBy q c .number ≡ firstDue (orderOf q c)
@@ -114,6 +121,21 @@ pub record Demand1 : Type 0 where
   pub recordedAnswers : (b : Bench) (c : BenchCall) → (saidRecorded b c .number ≡ numberOf b (callOn (b .queue) c))
       × (numberOf b (callOn (b .queue) c) ≡ done → (saidRecorded b c ≡ saidBy (b .queue) c) × (called b (callOn (b .queue) c) .queue ≡ leftBy (b .queue) c))
   pub refusedRecorded : (b : Bench) (c : BenchCall) → (saidRecorded b c .number ≡ done → ⊥) → saidRecorded b c .values ≡ givenTo c
+  -- a whole list: 1, of an empty one too; then the number of the separate register of the next one, behind those that were taken
+  pub listNumber : (q : Queue) (ns : List ℕ) → registeredAll q ns .answer .refusal ≡ firstDue (registerAllOrder q ns (registeredAll q ns .answer .taken))
+  pub listNumberRecorded : (b : Bench) (ns : List ℕ) → listAnswer b ns .refusal ≡ firstDue (listOrder b ns)
+  pub listUnrefused : ((q : Queue) (ns : List ℕ) → (registeredAll q ns .answer .refusal ≡ done) ↔ ((wellFormed q ≡ true) × (registeredAll q ns .answer .taken ≡ length ns)))
+      × ((b : Bench) (ns : List ℕ) → (listAnswer b ns .refusal ≡ done) ↔ ((rowsFit (length (b .log)) (b .used) ≡ true) × (wellFormed (b .queue) ≡ true) × (listAnswer b ns .taken ≡ length ns)))
+  -- from that refusal on nothing is taken: what is left is what the separate calls of the first ones leave (of the log demand 3 says so).
+  -- The list itself can't change: it is lent to be read. None taken changes nothing
+  pub listKeeps : ((q : Queue) (ns : List ℕ) → registeredAll q ns .queue ≡ afterAll q (registersOf (take (registeredAll q ns .answer .taken) ns)))
+      × ((b : Bench) (ns : List ℕ) → listedTo b ns .queue ≡ afterAll (b .queue) (registersOf (take (listAnswer b ns .taken) ns)))
+      × ((g : Groups) (id : ℕ) (ns : List ℕ) → SixteenPlaces g
+      → registeredAllIn g id ns .groups ≡ groupsAfterAll g (registersIn id (take (registeredAllIn g id ns .answer .taken) ns)))
+  pub listNoneTaken : ((q : Queue) (ns : List ℕ) → registeredAll q ns .answer .taken ≡ 0 → registeredAll q ns .queue ≡ q)
+      × ((b : Bench) (ns : List ℕ) → listAnswer b ns .taken ≡ 0 → listedTo b ns ≡ b)
+  pub listEmpty : ((q : Queue) → registeredAll q [] ≡ tookNone q (firstDue (brokenOnly q)))
+      × ((b : Bench) → (listAnswer b [] ≡ tookAs 0 (firstDue (due broken (not (rowsFit (length (b .log)) (b .used))) ∷ brokenOnly (b .queue)))) × (listedTo b [] ≡ b))
   -- the reader: 14 where the opening is refused, with place 0 and the blank queue; then 16 exactly if the log does not belong
   pub oneNumberRead : (o : Opening) (log : List ℕ) (r : Reading) → ReadsAs o log r
       → (belongs : Bool) × ((belongs ≡ true) ↔ WordsBelong (settingOf o) log) × (readSays (r .answer) .0 ≡ firstDue (readOrder o belongs))
@@ -126,6 +148,12 @@ pub record Demand1 : Type 0 where
   pub groupsRefusalIsNot0 : ((g : Groups) (c : GroupCall) → GroupsNotRefusedWith0 g c) × ((base : ℕ) → newOf base .answer ≡ Opened.Refused done → ⊥)
       × ((g : Groups) (id : ℕ) → got g id .answer ≡ Got.Refused done → ⊥)
   pub groupsUnchanged : (g : Groups) (c : GroupCall) → GroupsRefusedAs g (givenToGroups c) (saidOfGroups g c) (groupsAfter g c)
+  -- a whole list of a group: 1, 10, then the queue's; an empty one too
+  pub listNumberGroups : (g : Groups) (id : ℕ) (ns : List ℕ) → registeredAllIn g id ns .answer .refusal ≡ firstDue (stepOrder g id (λ q. registerAllOrder q ns (registeredAll q ns .answer .taken)))
+  pub listUnrefusedGroups : (g : Groups) (id : ℕ) (ns : List ℕ) → SixteenPlaces g
+      → (registeredAllIn g id ns .answer .refusal ≡ done) ↔ ((wellGrouped g ≡ true) × IsLive g id × (registeredAllIn g id ns .answer .taken ≡ length ns))
+  pub listNoneTakenGroups : (g : Groups) (id : ℕ) (ns : List ℕ) → registeredAllIn g id ns .answer .taken ≡ 0 → registeredAllIn g id ns .groups ≡ g
+  pub listEmptyGroups : (g : Groups) (id : ℕ) → SixteenPlaces g → registeredAllIn g id [] ≡ tookNoneIn g (firstDue (idOrder g id))
   pub emptyNew : (base : ℕ) → GroupsRefusedAs (emptyOf 0) [] (openedSays (newOf base .answer)) (newOf base .groups)
   pub blankGet : (g : Groups) (id : ℕ) → RefusedAs blank [] (gotSays (got g id .answer)) (got g id .queue)
 
@@ -139,6 +167,13 @@ pub record Demand2 : Type 0 where
   pub birthStores : (q : Queue) → Sized q → (n : ℕ) → Pushes q n (registered q n) × Pushes q n (landed q n)
   pub birthLeaves : (q : Queue) (n : ℕ) → LeavesSelected q (registered q n .queue) × (registered q n .queue .phase ≡ q .phase) × LeavesSelected q (landed q n .queue)
   pub landMoves : (q : Queue) (n token : ℕ) → landed q n .answer ≡ Registered.Token token → (isPending (q .phase) ≡ true) × (landed q n .queue .phase ≡ phaseAfter (q .phase) Event.Land)
+  -- a whole list is the separate registers of its first numbers: each gives the next token
+  pub listTokens : (q : Queue) (ns : List ℕ) → tokens q (registersOf (take (registeredAll q ns .answer .taken) ns)) ≡ countedFrom (q .count) (registeredAll q ns .answer .taken)
+  pub listStores : (q : Queue) (ns : List ℕ) → Sized q → PushesAll q ns (registeredAll q ns)
+  -- as many as lie before the first 0, as slots are unused, and, recorded, as rows are free
+  pub listCounted : ((q : Queue) (ns : List ℕ) → wellFormed q ≡ true → registeredAll q ns .answer .taken ≡ min (beforeZero ns) (64 - q .count))
+      × ((b : Bench) (ns : List ℕ) → rowsFit (length (b .log)) (b .used) ≡ true → wellFormed (b .queue) ≡ true
+      → listAnswer b ns .taken ≡ min (beforeZero ns) (min (64 - b .queue .count) (freeRows (length (b .log)) (b .used))))
   -- work handed out: its slot empties, its ticket is selected and issued, next rises by 1 with a fresh ticket; without work nothing changes
   pub popLeaves : (q : Queue) (t : Ticket) (number : ℕ) → popped q .answer ≡ Work t number
       → (popped q .queue .slots ≡ set (q .slots) (t .token) 0) × (popped q .queue .selection ≡ Of t) × (popped q .queue .issued ≡ true) × TakesNext q (popped q .queue)
@@ -206,6 +241,11 @@ pub record Demand2 : Type 0 where
   pub noSuchGroup : (g : Groups) (id : ℕ) → SixteenPlaces g → wellGrouped g ≡ true → (IsLive g id → ⊥)
       → ((c : BenchCall) → saidOfGroups g (byId id c) .number ≡ noGroup) × (saidOfGroups g (GroupCall.remove id) .number ≡ noGroup) × ((a : QueueQuestion) → toldById g id a .number ≡ noGroup)
       × (toldSays (acceptsIn g id) .number ≡ noGroup) × (gotSays (got g id .answer) .number ≡ noGroup)
+  -- a whole list of a live id is the queue's, in that place alone; on any other id none is taken
+  pub listOfGroup : (g : Groups) (i : ℕ) → LiveGroup g i → (ns : List ℕ) → registeredAllIn g (idAt g i) ns
+      ≡ record { answer = registeredAll (queueAt g i) ns .answer; groups = withQueue g i (registeredAll (queueAt g i) ns .queue) }
+  pub listOfNoGroup : (g : Groups) (id : ℕ) (ns : List ℕ) → SixteenPlaces g → (wellGrouped g ≡ false → registeredAllIn g id ns ≡ tookNoneIn g broken)
+      × (wellGrouped g ≡ true → (IsLive g id → ⊥) → registeredAllIn g id ns ≡ tookNoneIn g noGroup)
   -- a live group that a call is not for keeps its whole place
   pub otherGroupsStay : (g : Groups) → SixteenPlaces g → (c : GroupCall) (j : ℕ) → LiveAt g j → isFor c (idAt g j) ≡ false → placeAt (groupsAfter g c) j ≡ placeAt g j
   -- the check says yes to exactly the sound records; a new one has the root alone; from it on, whatever is called, it is sound
@@ -259,6 +299,12 @@ pub record Demand3 : Type 0 where
   pub rowIsWritten : (b : Bench) (c : Call) → rowsFit (length (b .log)) (b .used) ≡ true → hasRoom (length (b .log)) (b .used) ≡ true
       → entryOf (b .queue) c .refusal ≡ done → entryOf (b .queue) c .changed ≡ true
       → (numberOf b c ≡ done) × (called b c ≡ bench (after (b .queue) c) (b .used + 1) (written (b .log) (b .used) (flat (entryOf (b .queue) c .row))))
+  -- a whole list counts as the separate recorded calls that were taken, each accepted, a row each
+  pub listIsRecorded : (b : Bench) (ns : List ℕ) → Made b (registersOf (take (listAnswer b ns .taken) ns)) (listedTo b ns)
+  pub listRows : (b : Bench) (ns : List ℕ) → listedTo b ns .used ≡ b .used + listAnswer b ns .taken
+  -- so a history may contain it: these are the same histories, and they leave the same logs
+  pub listedSame : (s : Start) (b : Bench) → ListedHistory s b ↔ History s b
+  pub sameLogs : (o : Opening) (memory log : List ℕ) → LeftListed o memory log ↔ LeftIn o memory log
   -- the reader has a right answer for every log, accepts a log exactly when it belongs, and one answer is right
   pub everyLogRead : (o : Opening) (log : List ℕ) → ReadsAs o log (readFrom (openedAs o) log)
   pub readerAccepts : (o : Opening) (log : List ℕ) (r : Reading) → ReadsAs o log r → (readSays (r .answer) .0 ≡ done) ↔ InLanguage o log
@@ -267,10 +313,10 @@ pub record Demand3 : Type 0 where
   pub oneSet : (o : Opening) → WordOpening o → (memory log : List ℕ) → length log ≤ length memory
       → LeftIn o memory log ↔ (WordsBelong (settingOf o) log × (every isWord log ≡ true))
   -- the reader's end state is the one that the calls leave, and before a bad row the one that the calls before it leave
-  pub endState : (s : Start) (b : Bench) → History s b → (r : Reading) → ReadsAs (s .opening) (wordsWritten b) r → r ≡ reading (Read.Good (b .used)) (b .queue)
-  pub stateBefore : (s : Start) (b : Bench) → History s b → (log : List ℕ) (r : Reading) → ReadsAs (s .opening) log r
+  pub endState : (s : Start) (b : Bench) → ListedHistory s b → (r : Reading) → ReadsAs (s .opening) (wordsWritten b) r → r ≡ reading (Read.Good (b .used)) (b .queue)
+  pub stateBefore : (s : Start) (b : Bench) → ListedHistory s b → (log : List ℕ) (r : Reading) → ReadsAs (s .opening) log r
       → readSays (r .answer) .0 ≡ badLog → rowsOf b ≡ take (readSays (r .answer) .1) (rows log) → r .queue ≡ b .queue
-  pub oneState : (s t : Start) (a b : Bench) → openedQueue s ≡ openedQueue t → History s a → History t b → rowsOf a ≡ rowsOf b → a .queue ≡ b .queue
+  pub oneState : (s t : Start) (a b : Bench) → openedQueue s ≡ openedQueue t → ListedHistory s a → ListedHistory t b → rowsOf a ≡ rowsOf b → a .queue ≡ b .queue
 
 -- ---- of the library for C
 pub record LibraryDemand : Type 0 where
@@ -289,13 +335,23 @@ pub record LibraryDemand : Type 0 where
   pub readsAsTheReader : (ws : List ℕ) (kind domain first : ℕ) (bindings log : List ℕ) (x : Exported)
       → (kind ≤ 1 → ReadOn ws kind domain first bindings log x ↔ (x ≡ readWritten (readFrom (openedAs (openingBy kind domain first bindings)) log)))
       × (1 < kind → ReadOn ws kind domain first bindings log x ↔ (x ≡ writtenAs plainWords (says broken []) ws))
-  -- other words say 1, stay, and the undo number that was given comes back; so do words, log and used rows of any call that is refused
+  -- other words say 1, stay, and the undo number that was given comes back; so do words, log and used rows of each of these that is refused
   pub noRecord : (ws : List ℕ) → encodes ws ≡ false → ((c : WordCall) → madeBy ws c ≡ writtenAs (formOf c) (says broken (givenTo (benchOf c))) ws)
       × ((a : WordQuestion) → askedOn ws a ≡ writtenAs (formAsked a) (says broken []) ws)
   pub noRecordLogged : (s : Session) (c : WordCall) → encodes (s .words) ≡ false
       → loggedBy s c ≡ recordedOn (writtenAs (formOf c) (says broken (givenTo (benchOf c))) (s .words)) (s .log) (s .used)
   pub refusedWords : ((ws : List ℕ) (c : WordCall) → (madeBy ws c .result ≡ done → ⊥) → madeBy ws c .words ≡ ws)
       × ((s : Session) (c : WordCall) → (loggedBy s c .call .result ≡ done → ⊥) → loggedTo (loggedBy s c) ≡ s)
+  -- a whole list is the queue's too, plain and recorded: its number, and how many were taken. On other words it says 1 and takes none, and none taken
+  -- leaves words, log and used rows
+  pub listAsTheCall : (ws ns : List ℕ) → (encodes ws ≡ true → registerAllOn ws ns
+      ≡ writtenAs plainWords (registeredAllSays (registeredAll (queueOf ws) ns .answer)) (wordsOf (registeredAll (queueOf ws) ns .queue)))
+      × (encodes ws ≡ false → registerAllOn ws ns ≡ writtenAs plainWords (says broken (0 ∷ [])) ws)
+  pub listLoggedAsTheCall : (s : Session) (ns : List ℕ) → (encodes (s .words) ≡ true → loggedAll s ns
+      ≡ loggedAs plainWords (registeredAllSays (listAnswer (benchIn s) ns)) (listedTo (benchIn s) ns))
+      × (encodes (s .words) ≡ false → loggedAll s ns ≡ recordedOn (writtenAs plainWords (says broken (0 ∷ [])) (s .words)) (s .log) (s .used))
+  pub listNoneWords : ((ws ns : List ℕ) → word (registerAllOn ws ns .answer) atValue ≡ 0 → registerAllOn ws ns .words ≡ ws)
+      × ((s : Session) (ns : List ℕ) → word (loggedAll s ns .call .answer) atValue ≡ 0 → loggedTo (loggedAll s ns) ≡ s)
   -- a session's steps are these calls
   pub sessionSteps : (s : Session) (c : LibraryCall) (t : Session) → LeavesSession s c t ↔ (t ≡ sessionAfter s c)
   -- an opening makes sound words of any, and whatever is called they stay sound

@@ -6,13 +6,13 @@ use Rattle.queue_record.specs.Openings.{scopeOpened, iteratorOpened}
 use Rattle.cleanup_queue.specs.Answers.{Said}
 use Rattle.queue_words.specs.Layout.{atGivenDomain, atGivenToken, atGivenAttempt}
 use Rattle.queue_words.specs.Words.{word, ticketOf, queueOf, wordsOf}
-use Rattle.queue_words.specs.Exported.{Exported, OpensOn}
+use Rattle.queue_words.specs.Exported.{Exported, OpensOn, registerAllOn}
 use Rattle.gulberzan_c.specs.Recorded.{Recorded, recordedOn}
 use Rattle.gulberzan_c.specs.ReadBack.{ReadOn}
 use Rattle.history.specs.Histories.{Bench, bench}
 use Rattle.history.specs.Benches.{BenchCall}
 use Rattle.library_laws.specs.CallWords.{WordCall}
-use Rattle.library_laws.specs.Sessions.{Session, session, loggedBy, loggedTo, LibraryCall}
+use Rattle.library_laws.specs.Sessions.{Session, session, loggedBy, loggedAll, loggedTo, LibraryCall}
 use Rattle.library_laws.specs.Results.{madeBy}
 use Rattle.library_laws.specs.Results.{WordQuestion, wordsEmpty, wordsIssued, wordsPending, wordsSettled, wordsCancelled, wordsFailed, wordsRetry, wordsFinish, wordsDomain}
 use Rattle.library_laws.specs.Values.{plainWords, workWords, yesNoWords, writtenAs}
@@ -76,5 +76,7 @@ abbrev pub LeavesSession : Session → LibraryCall → Session → Type 0
 LeavesSession s (LibraryCall.opensScope domain first) t = (n : ℕ) × (words : List ℕ) × OpensOn (scopeOpened domain first) n words × (t ≡ session words (s .log) (s .used))
 LeavesSession s (LibraryCall.opensIterator domain first bindings) t = (n : ℕ) × (words : List ℕ) × OpensOn (iteratorOpened domain first bindings) n words × (t ≡ session words (s .log) (s .used))
 LeavesSession s (LibraryCall.makes c) t = t ≡ session (madeBy (s .words) c .words) (s .log) (s .used)
+LeavesSession s (LibraryCall.registersAll numbers) t = t ≡ session (registerAllOn (s .words) numbers .words) (s .log) (s .used)
 LeavesSession s (LibraryCall.records c) t = t ≡ loggedTo (loggedBy s c)
+LeavesSession s (LibraryCall.recordsAll numbers) t = t ≡ loggedTo (loggedAll s numbers)
 LeavesSession s (LibraryCall.reads kind domain first bindings log) t = (x : Exported) × ReadOn (s .words) kind domain first bindings log x × (t ≡ session (x .words) (s .log) (s .used))
