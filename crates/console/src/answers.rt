@@ -9,6 +9,7 @@ use cleanup_queue::DomainTold;
 use cleanup_queue::Opened;
 use cleanup_queue::Popped;
 use cleanup_queue::Registered;
+use cleanup_queue::RegisteredAll;
 use cleanup_queue::Retried;
 use cleanup_queue::Told;
 use cleanup_queue::refusal::BAD_TEXT;
@@ -68,6 +69,14 @@ pub fn born(answer: Registered) -> Said {
         Registered::Token(token) => good(1, token),
         Registered::Refused(refusal, given) => refused(refusal, given),
     }
+}
+
+// A list: how many were taken, whether or not one was refused.
+pub fn all_born(answer: RegisteredAll) -> Said {
+    if answer.refusal == 0 {
+        return good(1, answer.taken);
+    }
+    refused(answer.refusal, answer.taken)
 }
 
 pub fn popped(answer: Popped) -> Said {

@@ -17,6 +17,13 @@ fn birth(g: Groups, call: Call) -> Grouped {
     leave(after, answers::born(answer))
 }
 
+fn births(g: Groups, id: u64, list: &[u64]) -> Grouped {
+    let born = cleanup_groups::register_all(g, id, list);
+    let answer = born.answer;
+    let after = born.groups;
+    leave(after, answers::all_born(answer))
+}
+
 fn pop(g: Groups, id: u64) -> Grouped {
     let popped = cleanup_groups::pop(g, id);
     let answer = popped.answer;
@@ -79,6 +86,7 @@ pub fn step(g: Groups, call: Call, list: &[u64], domain: u64, kept: u64) -> Grou
         74 => retry(g, call.a),
         75 | 76 | 77 => stage(g, call, list),
         78 => cancel(g, call.a),
+        79 => births(g, call.a, list),
         _ => leave(g, answers::bad_line(0)),
     }
 }

@@ -30,6 +30,13 @@ fn birth(q: Queue, used: u64, call: Call) -> Left {
     leaves(after, used, answers::born(answer))
 }
 
+fn births(q: Queue, used: u64, list: &[u64]) -> Left {
+    let born = cleanup_queue::register_all(q, list);
+    let answer = born.answer;
+    let after = born.queue;
+    leaves(after, used, answers::all_born(answer))
+}
+
 // Pop by value, or on the queue lent.
 fn pop(q: Queue, used: u64, call: Call) -> Left {
     let popped = if call.number == 12 {
@@ -96,6 +103,7 @@ pub fn step(q: Queue, used: u64, domain: u64, call: Call, list: &[u64]) -> Left 
         14 => retry(q, used),
         15 | 16 | 17 => stage(q, used, call, list),
         18 => cancel(q, used),
+        19 => births(q, used, list),
         _ => leaves(q, used, answers::bad_line(0)),
     }
 }

@@ -27,6 +27,13 @@ fn birth(q: Queue, used: u64, call: Call, log: &mut [u64]) -> Left {
     born(cleanup_log::land_recorded(q, call.a, log, used))
 }
 
+fn births(q: Queue, used: u64, list: &[u64], log: &mut [u64]) -> Left {
+    let born = cleanup_log::register_all_recorded(q, list, log, used);
+    let answer = born.answer;
+    let after = born.queue;
+    leaves(after, born.used, answers::all_born(answer))
+}
+
 fn pop(q: Queue, used: u64, log: &mut [u64]) -> Left {
     let popped = cleanup_log::pop_recorded(q, log, used);
     let answer = popped.answer;
@@ -84,6 +91,7 @@ pub fn step(q: Queue, used: u64, domain: u64, call: Call, list: &[u64], log: &mu
         34 => retry(q, used, log),
         35 | 36 | 37 => stage(q, used, call, list, log),
         38 => cancel(q, used, log),
+        39 => births(q, used, list, log),
         _ => leaves(q, used, answers::bad_line(0)),
     }
 }
