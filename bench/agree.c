@@ -11,14 +11,16 @@
 #define ROOM (GULBERZAN_LOG_WORDS + 20)
 /* Words behind the lent ones that are compared too. */
 #define BEHIND 10
-#define LIST_ROOM 20
+/* The longest list, which is one to register, and the longest target. */
+#define LIST_ROOM 80
+#define TARGET_ROOM 20
 #define CALLS_A_HISTORY 120
 
 enum number {
-    OPEN_SCOPE, OPEN_ITERATOR, REGISTER, LAND, POP, COMPLETE, RETRY, ADMIT, ADMIT_WITHOUT, END, CANCEL,
+    OPEN_SCOPE, OPEN_ITERATOR, REGISTER, LAND, REGISTER_ALL, POP, COMPLETE, RETRY, ADMIT, ADMIT_WITHOUT, END, CANCEL,
     IS_EMPTY, IS_ISSUED, IS_PENDING, IS_SETTLED, IS_CANCELLED, HAS_FAILED, CAN_RETRY, CAN_FINISH, DOMAIN, WELL_FORMED,
-    REGISTER_RECORDED, LAND_RECORDED, POP_RECORDED, COMPLETE_RECORDED, RETRY_RECORDED, ADMIT_RECORDED,
-    ADMIT_WITHOUT_RECORDED, END_RECORDED, CANCEL_RECORDED, READ, NUMBERS
+    REGISTER_RECORDED, LAND_RECORDED, REGISTER_ALL_RECORDED, POP_RECORDED, COMPLETE_RECORDED, RETRY_RECORDED,
+    ADMIT_RECORDED, ADMIT_WITHOUT_RECORDED, END_RECORDED, CANCEL_RECORDED, READ, NUMBERS
 };
 
 /* All that a call may change. */
@@ -117,7 +119,7 @@ static void hold(const struct call *c) {
 /* Mostly the committed members, in any order and repeated; at times others. */
 static void choose_list(struct call *c) {
     uint64_t bound = library.queue[GULBERZAN_BINDINGS_USED];
-    c->count = below(LIST_ROOM + 1);
+    c->count = below(TARGET_ROOM + 1);
     bool committed = !once_in(4) && bound > 0 && bound <= GULBERZAN_BINDINGS;
     if (committed && c->count < bound) {
         c->count = bound;
@@ -128,6 +130,17 @@ static void choose_list(struct call *c) {
     }
     if (bound == 0 && once_in(2)) {
         c->count = 0;
+    }
+}
+
+/* Mostly few numbers, so that tokens are left; at times more than there are, and a 0 at any place. */
+static void choose_numbers(struct call *c) {
+    c->count = below(once_in(6) ? LIST_ROOM + 1 : 6);
+    for (size_t i = 0; i < c->count; i++) {
+        c->list[i] = 1 + below(1000);
+    }
+    if (c->count > 0 && once_in(3)) {
+        c->list[below(c->count)] = 0;
     }
 }
 
@@ -167,6 +180,9 @@ static void choose(struct call *c) {
         c->a = once_in(15) ? 0 : 1 + below(1000);
     }
     choose_list(c);
+    if (c->number == REGISTER_ALL || c->number == REGISTER_ALL_RECORDED) {
+        choose_numbers(c);
+    }
     if (c->number == COMPLETE || c->number == COMPLETE_RECORDED) {
         choose_ticket(c);
     }

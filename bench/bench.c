@@ -7,6 +7,7 @@
 #include "cycles.h"
 #include "processes.h"
 #include "readings.h"
+#include "sequences.h"
 #include "timing.h"
 #include "waits.h"
 
@@ -51,6 +52,24 @@ static void print_waits(const char *name, const work_many sides[SIDES], const st
         struct timed timed = time_in_turn(sides, &wait, effort);
         snprintf(what, sizeof what, "%s, one of %d waits, at place %u", name, GULBERZAN_SLOTS, places[i]);
         time_row(what, &timed, 1.0);
+    }
+}
+
+static void print_sequences(const struct effort *effort) {
+    static const struct {
+        const char *what;
+        const work_many *sides;
+    } rows[] = {
+        {"list of 64 at once", lists_at_once},
+        {"list of 64 one by one", lists_one_by_one},
+        {"recorded list of 64 at once", recorded_lists_at_once},
+        {"recorded list of 64 one by one", recorded_lists_one_by_one},
+    };
+    struct sequence sequence;
+    make_sequence(&sequence);
+    for (size_t i = 0; i < sizeof rows / sizeof rows[0]; i++) {
+        struct timed timed = time_in_turn(rows[i].sides, &sequence, effort);
+        time_row(rows[i].what, &timed, 1.0);
     }
 }
 
@@ -113,6 +132,8 @@ static void run_all(const struct drivers *drivers, const struct effort *effort) 
     head_row("pop: 64 tokens, one waits", "ns a pop");
     print_waits("pop by words", word_pops, effort);
     print_waits("pop by value", value_pops, effort);
+    head_row("lists: open, register 64 numbers", "ns a list");
+    print_sequences(effort);
     head_row("the reader", "ns a log");
     print_readings(timed, effort);
     print_growth(timed);

@@ -80,6 +80,21 @@ uint64_t plain_land(struct plain_queue *q, uint64_t number, uint64_t *token) {
     return born(q, number, true, token);
 }
 
+/* A number more leaves a well-formed record well formed, so that is asked once for all of them. */
+uint64_t plain_register_all(struct plain_queue *q, const uint64_t *numbers, size_t count, uint64_t *taken) {
+    *taken = 0;
+    if (!plain_well_formed(q)) {
+        return PLAIN_BROKEN;
+    }
+    uint64_t refusal = PLAIN_DONE;
+    size_t place = 0;
+    while (place < count && (refusal = birth_refusal(q, numbers[place], false)) == PLAIN_DONE) {
+        take_birth(q, numbers[place++], false);
+    }
+    *taken = place;
+    return refusal;
+}
+
 uint64_t plain_pop(struct plain_queue *q, struct plain_work *work) {
     if (!plain_well_formed(q)) {
         return PLAIN_BROKEN;

@@ -70,7 +70,7 @@ struct plain_log {
     uint64_t rows;
 };
 
-/* Every call answers a number of refusal, and writes its answer only with 0. */
+/* Every call answers a number of refusal, and writes its answer only with 0; but how many of a list were taken is always written. */
 uint64_t plain_open_scope(struct plain_queue *q, uint64_t domain, uint64_t first);
 uint64_t plain_open_iterator(struct plain_queue *q, uint64_t domain, uint64_t first, const uint64_t *bindings,
                              size_t count);
@@ -78,6 +78,7 @@ bool plain_well_formed(const struct plain_queue *q);
 
 uint64_t plain_register(struct plain_queue *q, uint64_t number, uint64_t *token);
 uint64_t plain_land(struct plain_queue *q, uint64_t number, uint64_t *token);
+uint64_t plain_register_all(struct plain_queue *q, const uint64_t *numbers, size_t count, uint64_t *taken);
 uint64_t plain_pop(struct plain_queue *q, struct plain_work *work);
 uint64_t plain_complete(struct plain_queue *q, const struct plain_ticket *ticket, uint64_t outcome, uint64_t kept);
 uint64_t plain_retry(struct plain_queue *q, struct plain_ticket *ticket);
@@ -100,6 +101,8 @@ uint64_t plain_waiting(const struct plain_queue *q);
 
 uint64_t plain_register_recorded(struct plain_queue *q, uint64_t number, struct plain_log *log, uint64_t *token);
 uint64_t plain_land_recorded(struct plain_queue *q, uint64_t number, struct plain_log *log, uint64_t *token);
+uint64_t plain_register_all_recorded(struct plain_queue *q, const uint64_t *numbers, size_t count,
+                                     struct plain_log *log, uint64_t *taken);
 uint64_t plain_pop_recorded(struct plain_queue *q, struct plain_log *log, struct plain_work *work);
 uint64_t plain_complete_recorded(struct plain_queue *q, const struct plain_ticket *ticket, uint64_t outcome,
                                  uint64_t kept, struct plain_log *log);

@@ -10,6 +10,8 @@ static uint64_t CALL(made_step)(struct state *s, const struct call *c) {
         return CALL(register)(s->queue, c->a, s->answer);
     case LAND:
         return CALL(land)(s->queue, c->a, s->answer);
+    case REGISTER_ALL:
+        return CALL(register_all)(s->queue, c->list, c->count, s->answer);
     case POP:
         return CALL(pop)(s->queue, s->answer);
     case COMPLETE:
@@ -58,6 +60,8 @@ static uint64_t CALL(made_recorded)(struct state *s, const struct call *c) {
         return CALL(register_recorded)(s->queue, c->a, s->log, c->words, &s->used, s->answer);
     case LAND_RECORDED:
         return CALL(land_recorded)(s->queue, c->a, s->log, c->words, &s->used, s->answer);
+    case REGISTER_ALL_RECORDED:
+        return CALL(register_all_recorded)(s->queue, c->list, c->count, s->log, c->words, &s->used, s->answer);
     case POP_RECORDED:
         return CALL(pop_recorded)(s->queue, s->log, c->words, &s->used, s->answer);
     case COMPLETE_RECORDED:

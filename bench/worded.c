@@ -111,7 +111,7 @@ uint64_t worded_well_formed(const uint64_t *queue) {
     return load(queue, &q) && plain_well_formed(&q);
 }
 
-/* A call on loaded words; what it leaves is stored, which after a refusal are the same words. */
+/* A call on loaded words; what it leaves is stored, which after a refusal are the same words, but for what was taken of a list. */
 #define ON_QUEUE(result, queue, call)                                                                                  \
     struct plain_queue q;                                                                                              \
     uint64_t result = PLAIN_BROKEN;                                                                                    \
@@ -130,6 +130,13 @@ uint64_t worded_land(uint64_t *queue, uint64_t number, uint64_t *answer) {
     uint64_t token = 0;
     ON_QUEUE(result, queue, plain_land(&q, number, &token))
     return tell_value(answer, result, number, token);
+}
+
+/* How many were taken is told with a refusal too. */
+uint64_t worded_register_all(uint64_t *queue, const uint64_t *numbers, size_t count, uint64_t *answer) {
+    uint64_t taken = 0;
+    ON_QUEUE(result, queue, plain_register_all(&q, numbers, count, &taken))
+    return tell_value(answer, result, taken, taken);
 }
 
 uint64_t worded_pop(uint64_t *queue, uint64_t *answer) {
@@ -222,6 +229,15 @@ uint64_t worded_land_recorded(uint64_t *queue, uint64_t number, uint64_t *log, s
     ON_QUEUE(result, queue, plain_land_recorded(&q, number, &lent, &token))
     *used = lent.rows;
     return tell_value(answer, result, number, token);
+}
+
+uint64_t worded_register_all_recorded(uint64_t *queue, const uint64_t *numbers, size_t count, uint64_t *log,
+                                      size_t words, uint64_t *used, uint64_t *answer) {
+    struct plain_log lent = {log, words, *used};
+    uint64_t taken = 0;
+    ON_QUEUE(result, queue, plain_register_all_recorded(&q, numbers, count, &lent, &taken))
+    *used = lent.rows;
+    return tell_value(answer, result, taken, taken);
 }
 
 uint64_t worded_pop_recorded(uint64_t *queue, uint64_t *log, size_t words, uint64_t *used, uint64_t *answer) {

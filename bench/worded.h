@@ -12,6 +12,7 @@ uint64_t worded_open_iterator(uint64_t *queue, uint64_t domain, uint64_t first_a
 uint64_t worded_well_formed(const uint64_t *queue);
 uint64_t worded_register(uint64_t *queue, uint64_t number, uint64_t *answer);
 uint64_t worded_land(uint64_t *queue, uint64_t number, uint64_t *answer);
+uint64_t worded_register_all(uint64_t *queue, const uint64_t *numbers, size_t count, uint64_t *answer);
 uint64_t worded_pop(uint64_t *queue, uint64_t *answer);
 uint64_t worded_complete(uint64_t *queue, const uint64_t *ticket, uint64_t outcome, uint64_t kept, uint64_t *answer);
 uint64_t worded_retry(uint64_t *queue, uint64_t *answer);
@@ -32,6 +33,8 @@ uint64_t worded_register_recorded(uint64_t *queue, uint64_t number, uint64_t *lo
                                   uint64_t *answer);
 uint64_t worded_land_recorded(uint64_t *queue, uint64_t number, uint64_t *log, size_t words, uint64_t *used,
                               uint64_t *answer);
+uint64_t worded_register_all_recorded(uint64_t *queue, const uint64_t *numbers, size_t count, uint64_t *log,
+                                      size_t words, uint64_t *used, uint64_t *answer);
 uint64_t worded_pop_recorded(uint64_t *queue, uint64_t *log, size_t words, uint64_t *used, uint64_t *answer);
 uint64_t worded_complete_recorded(uint64_t *queue, const uint64_t *ticket, uint64_t outcome, uint64_t kept,
                                   uint64_t *log, size_t words, uint64_t *used, uint64_t *answer);

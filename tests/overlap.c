@@ -1,6 +1,7 @@
-/* overlap.c: inputs that lie inside the queue, the answer, the log or the used count. Each call is made twice from the same state, with its input copied to
-   memory of its own and with its input where it lies, and must leave the same words; and both idioms that one would write, with the
-   ticket from pop's answer and from the queue's own words, are followed to the log's row and through the reader. */
+/* overlap.c: inputs that lie inside the queue, the answer, the log or the used count. Each call is made twice from the same state, with
+   its input copied to memory of its own and with its input where it lies, and must leave the same words; and both idioms that one would
+   write, with the ticket from pop's answer and from the queue's own words, are followed to the log's row and through the reader, as is a
+   list to register that is the queue's own bindings. */
 #include <stdio.h>
 #include <stdlib.h>
 #include <string.h>
@@ -61,6 +62,14 @@ static void open_iterator(struct bench *b, const uint64_t *bindings, size_t coun
     b->result = gulberzan_open_iterator(b->queue, 9, 4, bindings, count);
 }
 
+static void register_all(struct bench *b, const uint64_t *numbers, size_t count) {
+    b->result = gulberzan_register_all(b->queue, numbers, count, b->answer);
+}
+
+static void register_all_recorded(struct bench *b, const uint64_t *numbers, size_t count) {
+    b->result = gulberzan_register_all_recorded(b->queue, numbers, count, b->log, ROWS * GULBERZAN_ROW_WORDS, &b->used, b->answer);
+}
+
 static void admit(struct bench *b, const uint64_t *target, size_t count) {
     b->result = gulberzan_admit(b->queue, target, count, b->answer);
 }
@@ -119,6 +128,8 @@ static void compare_calls(const struct bench *state) {
     compare_all("complete", complete_failed, state, GULBERZAN_TICKET_WORDS, GULBERZAN_TICKET_WORDS);
     compare_all("complete_recorded", complete_done_recorded, state, GULBERZAN_TICKET_WORDS, GULBERZAN_TICKET_WORDS);
     compare_all("complete_recorded", complete_failed_recorded, state, GULBERZAN_TICKET_WORDS, GULBERZAN_TICKET_WORDS);
+    compare_all("register_all", register_all, state, 0, GULBERZAN_SLOTS + 1);
+    compare_all("register_all_recorded", register_all_recorded, state, 0, GULBERZAN_SLOTS + 1);
     compare_all("admit", admit, state, 0, GULBERZAN_BINDINGS + 1);
     compare_all("admit_recorded", admit_recorded, state, 0, GULBERZAN_BINDINGS + 1);
     compare_all("can_finish", can_finish, state, 0, GULBERZAN_BINDINGS + 1);
@@ -127,11 +138,25 @@ static void compare_calls(const struct bench *state) {
     compare_all("read", read_scope, state, 0, GULBERZAN_BINDINGS + 1);
 }
 
+/* Numbers wherever a row will be written, so that a list there is taken, and one read too late is seen. */
+static void mark_log(struct bench *b) {
+    for (size_t place = 0; place < ROWS * GULBERZAN_ROW_WORDS; place++) b->log[place] = 900 + place;
+}
+
+/* Many slots with numbers in them: a list of these would go on for ever if it were read as it is registered. */
+static void compare_full_slots(struct bench *b) {
+    uint64_t numbers[GULBERZAN_SLOTS / 2];
+    for (size_t place = 0; place < GULBERZAN_SLOTS / 2; place++) numbers[place] = 100 + place;
+    expect(gulberzan_register_all(b->queue, numbers, GULBERZAN_SLOTS / 2, b->answer) == GULBERZAN_OK, "half of the slots' numbers");
+    compare_calls(b);
+}
+
 /* An iterator with three bindings and two undo numbers, of which the newer one is out under attempt 7; each step's state is tried. */
 static void compare_states(void) {
     static struct bench b;
     const uint64_t bindings[] = {31, 32, 33};
     size_t words = ROWS * GULBERZAN_ROW_WORDS;
+    mark_log(&b);
     expect(gulberzan_open_iterator(b.queue, 5, 7, bindings, 3) == GULBERZAN_OK, "an opening");
     compare_calls(&b);
     expect(gulberzan_register_recorded(b.queue, 71, b.log, words, &b.used, b.answer) == GULBERZAN_OK, "a first number");
@@ -141,6 +166,7 @@ static void compare_states(void) {
     compare_calls(&b);
     expect(gulberzan_admit_recorded(b.queue, bindings, 3, b.log, words, &b.used, b.answer) == GULBERZAN_OK, "an admit");
     compare_calls(&b);
+    compare_full_slots(&b);
     b.used = ROWS;
     compare_calls(&b);
     b.used = ROWS + 1;
@@ -181,8 +207,24 @@ static void follow(int from_queue, int recorded) {
     expect(!memcmp(end, b.queue, sizeof end), "the reader's end state is the queue");
 }
 
+/* The queue's own bindings as the list: three tokens with these numbers, recorded or not. */
+static void follow_list(int recorded) {
+    static struct bench b;
+    const uint64_t bindings[] = {31, 32, 33};
+    memset(&b, 0, sizeof b);
+    expect(gulberzan_open_iterator(b.queue, 5, 7, bindings, 3) == GULBERZAN_OK, "an opening");
+    (recorded ? register_all_recorded : register_all)(&b, b.queue + GULBERZAN_FIRST_BINDING, 3);
+    expect(b.result == GULBERZAN_OK && b.answer[GULBERZAN_CASE] == GULBERZAN_CASE_DONE, "the bindings registered");
+    expect(b.answer[GULBERZAN_VALUE] == 3 && b.queue[GULBERZAN_TOKENS_ISSUED] == 3, "three taken");
+    expect(!memcmp(b.queue + GULBERZAN_FIRST_SLOT, bindings, sizeof bindings), "the slots hold the bindings");
+    expect(!memcmp(b.queue + GULBERZAN_FIRST_BINDING, bindings, sizeof bindings), "the bindings stay");
+    expect(b.used == (recorded ? 3 : 0), "a row a number");
+}
+
 int main(void) {
     for (int which = 0; which < 4; which++) follow(which & 1, which >> 1);
+    follow_list(0);
+    follow_list(1);
     compare_states();
     printf("%lu calls with their input inside what they write leave the same words\n", tried);
     return 0;

@@ -5,6 +5,7 @@ use crate::fixed;
 use crate::generate::{history, opening, stage_log, steady, tempting_log};
 use crate::language;
 use crate::limits;
+use crate::listsagree;
 use crate::queue;
 use crate::random::Random;
 use crate::replay::{self, Verdict};
@@ -338,6 +339,9 @@ pub fn run(seed: u64, count: usize) -> Result<(), Difference> {
         println!("  {name}: {count}");
     }
     let tempted = tempting_logs(&mut random, count * 50)?;
-    println!("agree: {short} short, {known} known, {long} long, {tempted} tempting logs, no difference");
+    let lists = listsagree::run(&mut random, count * 50)?;
+    println!(
+        "agree: {short} short, {known} known, {long} long, {tempted} tempting logs, {lists} lists, no difference"
+    );
     Ok(())
 }

@@ -7,7 +7,7 @@ use crate::rows::TOP;
 
 type Bound = fn(&mut Maker);
 
-const BOUNDS: [Bound; 16] = [
+const BOUNDS: [Bound; 19] = [
     tokens_plain,
     tokens_recorded,
     tokens_of_a_group,
@@ -24,6 +24,9 @@ const BOUNDS: [Bound; 16] = [
     last_ids,
     largest_bases,
     list_room,
+    lists_at_the_tokens,
+    lists_at_the_rows,
+    lists_at_the_last_row,
 ];
 
 pub fn count() -> usize {
@@ -214,15 +217,19 @@ fn used_rows_at_the_top(maker: &mut Maker) {
     }
 }
 
+fn marked_log(maker: &mut Maker, words: u64) {
+    for place in 0..words {
+        maker.say(&[134, place, 900 + place]);
+    }
+}
+
 // Few words, with a used count below, at and above what fits; the words are marked to see them stay.
 fn tight_logs(maker: &mut Maker) {
     for words in 0..17 {
         for used in 0..4 {
             maker.reset();
             maker.open(true, 5, 0, &[4]);
-            for place in 0..20 {
-                maker.say(&[134, place, 900 + place]);
-            }
+            marked_log(maker, 20);
             maker.say(&[135, words]);
             maker.say(&[136, used]);
             maker.steps(Way::Recorded, "eprapf");
@@ -358,4 +365,95 @@ fn list_room(maker: &mut Maker) {
     maker.say(&[1, 5, 5]);
     maker.say(&[15]);
     maker.show();
+}
+
+// So many numbers, and at this place a 0 if there is such a place.
+fn numbers_with_zero(count: usize, zero: usize) -> Vec<u64> {
+    (0..count).map(|place| if place == zero { 0 } else { 100 + place as u64 }).collect()
+}
+
+// Lists just long enough for what is left, shorter and longer, each with a 0 at the last good place, at the first bad one and nowhere.
+fn lists_round(left: usize) -> Vec<Vec<u64>> {
+    let counts = [0, left.saturating_sub(1), left, left + 1, left + 2];
+    let zeros = [usize::MAX, left.saturating_sub(1), left];
+    let of_count = |count: usize| zeros.map(|zero| numbers_with_zero(count.min(64), zero));
+    let mut lists: Vec<Vec<u64>> = counts.into_iter().flat_map(of_count).collect();
+    lists.dedup();
+    lists
+}
+
+// What is left, with each of its lists.
+fn with_lists(lefts: &[usize]) -> Vec<(usize, Vec<u64>)> {
+    let pairs = |left: usize| lists_round(left).into_iter().map(move |list| (left, list));
+    lefts.iter().copied().flat_map(pairs).collect()
+}
+
+// A new queue in the place of the old one; of groups a new record, which keeps the id.
+fn begun_again(maker: &mut Maker, way: Way) {
+    match way {
+        Way::Group(_) => maker.say(&[60, 70]),
+        _ => maker.say(&[0, 5, 3]),
+    };
+    maker.say(&[136, 0]);
+}
+
+// Tokens that were issued long ago and are done leave so many.
+fn lists_to_the_last_token(maker: &mut Maker, way: Way) {
+    for (left, list) in with_lists(&[0, 1, 2, 5, 63, 64]) {
+        begun_again(maker, way);
+        maker.set_field(way, 4, 0, 64 - left as u64);
+        maker.register_all(way, &list);
+        seen(maker, way);
+    }
+}
+
+fn lists_at_the_tokens(maker: &mut Maker) {
+    for way in [Way::Plain, Way::Recorded, Way::Group(0)] {
+        lists_to_the_last_token(maker, way);
+    }
+}
+
+// A used row, so many whole ones free and a part of one; all words are marked, to see what stays.
+fn list_at_the_rows(maker: &mut Maker, left: u64, part: u64, tokens: u64, list: &[u64]) {
+    maker.reset();
+    marked_log(maker, 25);
+    maker.open(false, 5, 3, &[]);
+    maker.set_field(Way::Plain, 4, 0, tokens);
+    maker.say(&[135, 5 * (1 + left) + part]);
+    maker.say(&[136, 1]);
+    maker.register_all(Way::Recorded, list);
+    maker.show();
+    maker.say(&[135, 25]);
+    maker.say(&[142]);
+}
+
+// With plenty of tokens, and with one more than rows, as many and one less.
+fn lists_at_the_rows(maker: &mut Maker) {
+    for (left, list) in with_lists(&[0, 1, 2, 3]) {
+        let (left, part) = (left as u64, [0, 4, 3, 0][left]);
+        for tokens in [0, 63 - left, 64 - left, (65 - left).min(64)] {
+            list_at_the_rows(maker, left, part, tokens, &list);
+        }
+    }
+}
+
+// Lists of none, of one number, of more than the last rows take, and with a 0, each behind as many used rows.
+fn lists_behind(maker: &mut Maker, used: u64) {
+    for list in [&[][..], &[0], &[7], &[7, 8, 9, 10], &[7, 0]] {
+        maker.say(&[136, used]);
+        maker.register_all(Way::Recorded, list);
+        maker.show();
+    }
+}
+
+// Used counts round 4,096, and some whose rows would end past a u64.
+fn lists_at_the_last_row(maker: &mut Maker) {
+    for used in [4093, 4095, 4096, 4097, 4100, 4101, WRAPS, TOP] {
+        for words in [20_480, 20_500] {
+            maker.reset();
+            maker.open(true, 5, 0, &[]);
+            maker.say(&[135, words]);
+            lists_behind(maker, used);
+        }
+    }
 }

@@ -7,6 +7,7 @@ use crate::questions;
 use crate::queue::{open_iterator, open_scope, well_formed, Queue, Ticket};
 use crate::replay::{self, Verdict};
 use crate::rows::Row;
+use crate::sequences::{self, Took};
 use crate::text;
 
 pub const LOG_WORDS: usize = 20_500;
@@ -42,6 +43,14 @@ fn answered(answer: Answer) -> Said {
 
 fn outcome(result: Result<Answer, u64>) -> Said {
     result.map_or_else(|number| refused(number, 0), answered)
+}
+
+// A list that is refused part of the way tells how many were taken before.
+fn took(took: Took) -> Said {
+    match took.refusal {
+        0 => answered(one_value(took.taken)),
+        refusal => refused(refusal, took.taken),
+    }
 }
 
 fn set(done: Option<()>) -> Said {
@@ -100,6 +109,7 @@ impl Console {
         match line[0] {
             0..=29 => self.plain(line),
             30..=38 => self.recorded(line),
+            39 => self.all_recorded(),
             42 | 43 => self.plain(&[line[0] - 30, line[1], line[2], line[3], line[4]]),
             50 => self.read(line),
             60..=64 => self.membership(line),
@@ -117,6 +127,7 @@ impl Console {
             0 => self.opened((0, open_scope(a, b))),
             1 => self.opened(open_iterator(a, b, &self.list)),
             10..=18 => self.stepped(line),
+            19 => took(sequences::plain(&mut self.queue, &self.list)),
             20..=27 => {
                 outcome(questions::asked(&self.queue, number - 20, &self.list).map(yes_or_no))
             }
@@ -163,6 +174,11 @@ impl Console {
         }
     }
 
+    fn all_recorded(&mut self) -> Said {
+        let words = &mut self.log[..self.lent];
+        took(sequences::recorded(&mut self.queue, words, &mut self.used, &self.list))
+    }
+
     fn read(&mut self, line: &Row) -> Said {
         let [_, kind, domain, first, _] = *line;
         let (number, start) = match kind {
@@ -206,6 +222,7 @@ impl Console {
         let [number, id, ..] = *line;
         match number {
             70..=78 => self.step_of_a_group(line),
+            79 => took(sequences::of_a_group(&mut self.groups, id, &self.list)),
             80..=87 => {
                 let asked = |queue| questions::asked(queue, number - 80, &self.list);
                 outcome(groups::get(&self.groups, id).and_then(asked).map(yes_or_no))

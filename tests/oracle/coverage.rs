@@ -3,6 +3,7 @@
 use crate::console::{Console, Said};
 use crate::limitsmet;
 use crate::rows::Row;
+use crate::sequencesmet;
 use crate::situations;
 use crate::spoilage::Spoilage;
 use crate::unseen::{self, Records};
@@ -38,6 +39,7 @@ pub const LIST: &[Can] = &[
     can(16, "admit without", &[1], &[1, 2]),
     can(17, "end", &[1], &[1, 2]),
     can(18, "cancel", &[1], &[1]),
+    can(19, "register_all", &[1, 2, 3], &[1]),
     can(20, "is_empty", &[1], &[1, 2]),
     can(21, "is_issued", &[1], &[1, 2]),
     can(22, "is_pending", &[1], &[1, 2]),
@@ -58,6 +60,7 @@ pub const LIST: &[Can] = &[
     can(36, "recorded admit without", &[1], &[1, 2]),
     can(37, "recorded end", &[1, 17], &[1, 2]),
     can(38, "recorded cancel", &[1, 17], &[1]),
+    can(39, "recorded register_all", &[1, 2, 3, 17], &[1]),
     can(42, "lent pop", &[1, 5], &[1, 2]),
     can(43, "lent complete", &[1, 15, 6, 7], &[1]),
     can(50, "reader", &[14, 16], &[1]),
@@ -75,6 +78,7 @@ pub const LIST: &[Can] = &[
     can(76, "admit without of a group", &[1, 10], &[1, 2]),
     can(77, "end of a group", &[1, 10], &[1, 2]),
     can(78, "cancel of a group", &[1, 10], &[1]),
+    can(79, "register_all of a group", &[1, 10, 2, 3], &[1]),
     can(80, "is_empty of a group", &[1, 10], &[1, 2]),
     can(81, "is_issued of a group", &[1, 10], &[1, 2]),
     can(82, "is_pending of a group", &[1, 10], &[1, 2]),
@@ -130,6 +134,10 @@ pub struct Seen {
     // Records written over before they were shown, and pieces that were left out: there must be none.
     pub lost: u64,
     pub left_out: u64,
+}
+
+fn known_names() -> impl Iterator<Item = &'static &'static str> {
+    situations::NAMES.iter().chain(limitsmet::NAMES).chain(sequencesmet::NAMES)
 }
 
 // Rows of the table, each with how many of its cases were never seen.
@@ -215,7 +223,7 @@ impl Seen {
             let count = self.named.get(name).copied().unwrap_or(0);
             (format!("| {name} | {count} |"), usize::from(count == 0))
         };
-        situations::NAMES.iter().chain(limitsmet::NAMES).map(row).collect()
+        known_names().map(row).collect()
     }
 
     pub fn spoilage_rows(&self) -> Rows {
@@ -235,9 +243,7 @@ impl Seen {
             self.answers.keys().filter(|(call, result, case)| !listed(*call, *result, *case));
         let told =
             strange.map(|(call, result, case)| format!("{call}: result {result}, case {case}"));
-        let known = |name: &&'static str| {
-            situations::NAMES.contains(name) || limitsmet::NAMES.contains(name)
-        };
+        let known = |name: &&'static str| known_names().any(|other| other == name);
         let named = self.named.keys().filter(|name| !known(name)).map(|name| name.to_string());
         told.chain(named).collect()
     }

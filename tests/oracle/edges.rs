@@ -134,6 +134,9 @@ fn variants(queue: &Queue) -> Vec<Call<'static>> {
     calls
 }
 
+// Lists for register_all: none, one, more than a short log has rows for, and a 0 first and on the way.
+const LISTS: [&[u64]; 5] = [&[], &[7], &[7, 8, 9, TOP], &[0, 7], &[7, 0, 8]];
+
 fn set_log(maker: &mut Maker, log: (u64, u64)) {
     maker.say(&[135, log.0]);
     maker.say(&[136, log.1]);
@@ -150,12 +153,16 @@ fn rebuilt(maker: &mut Maker, state: &State, way: Way, log: (u64, u64)) {
     }
 }
 
+fn is_changed(maker: &Maker, way: Way, start: &Queue, log: (u64, u64)) -> bool {
+    maker.queue(way) != *start || (way == Way::Recorded && maker.console.used != log.1)
+}
+
 // A refusal changes nothing, so only a change asks for the state to be built again.
 fn every_variant(maker: &mut Maker, state: &State, way: Way, log: (u64, u64)) {
     rebuilt(maker, state, way, log);
     let start = maker.queue(way);
     for call in variants(&start) {
-        if maker.queue(way) != start || (way == Way::Recorded && maker.console.used != log.1) {
+        if is_changed(maker, way, &start, log) {
             rebuilt(maker, state, way, log);
         }
         if way == Way::Lent && !matches!(call, Call::Pop | Call::Complete(..)) {
@@ -163,6 +170,20 @@ fn every_variant(maker: &mut Maker, state: &State, way: Way, log: (u64, u64)) {
         }
         maker.call(way, &call);
         shown_after(maker, way, maker.queue(way) != start);
+    }
+    if way != Way::Lent {
+        every_list(maker, state, way, log, &start);
+    }
+}
+
+// A list that is refused on the way has changed the state too.
+fn every_list(maker: &mut Maker, state: &State, way: Way, log: (u64, u64), start: &Queue) {
+    for list in LISTS {
+        if is_changed(maker, way, start, log) {
+            rebuilt(maker, state, way, log);
+        }
+        maker.register_all(way, list);
+        shown_after(maker, way, maker.queue(way) != *start);
     }
 }
 

@@ -121,6 +121,13 @@ fn lines(groups: &Groups) -> Vec<(Vec<u64>, Vec<u64>)> {
     lines
 }
 
+// What the list holds does not matter to an id that is not live.
+fn stranger_lists(maker: &mut Maker, id: u64) {
+    for list in [&[][..], &[0], &[7, 0]] {
+        maker.register_all(Way::Group(id), list);
+    }
+}
+
 // By-id calls of an id that is not live; 10 comes before all that the queue would refuse.
 fn strangers(maker: &mut Maker) {
     let next = maker.console.groups.next;
@@ -128,6 +135,7 @@ fn strangers(maker: &mut Maker) {
         for number in 70..=78 {
             maker.say(&[number, id, 0, 9, 2]);
         }
+        stranger_lists(maker, id);
         for number in 80..=88 {
             maker.say(&[number, id]);
         }

@@ -1,4 +1,4 @@
-// handwork.rs: console scripts worked out by hand from the rules: W1 to W12, groups, bad lines.
+// handwork.rs: console scripts worked out by hand from the rules: W1 to W12, groups, whole lists registered, bad lines.
 
 use crate::badlines;
 use crate::console;
@@ -364,6 +364,95 @@ const GROUPS: &[Case] = &[
     ),
 ];
 
+const SEQUENCES: &[Case] = &[
+    (
+        "register_all: in turn, up to the first refusal, and what was taken stays",
+        &[
+            ("0,5", DONE),
+            ("19", DONE),
+            ("121,71", DONE),
+            ("121,72", DONE),
+            ("19", "0,1,2,0,0,0,0"),
+            ("121,0", DONE),
+            ("121,73", DONE),
+            ("19", "2,0,2,0,0,0,0"),
+            ("12", "0,2,5,3,0,72,0"),
+            ("130,4,0,63", DONE),
+            ("19", "3,0,1,0,0,0,0"),
+            ("19", "3,0,0,0,0,0,0"),
+            ("120", DONE),
+            ("19", DONE),
+            ("121,0", DONE),
+            ("19", "2,0,0,0,0,0,0"),
+            ("130,9,0,1", DONE),
+            ("19", "1,0,0,0,0,0,0"),
+            ("120", DONE),
+            ("19", "1,0,0,0,0,0,0"),
+        ],
+    ),
+    (
+        "register_all, recorded: rows for what is taken, 17 behind 2 and 3, never for an empty list",
+        &[
+            ("0,5", DONE),
+            ("135,14", DONE),
+            ("121,71", DONE),
+            ("121,72", DONE),
+            ("121,73", DONE),
+            ("39", "17,0,2,0,0,0,2"),
+            ("142", "14,2,0,0,0,0,71,0,1,0,0,72,0,0,0,0"),
+            ("12", "0,2,5,1,0,72,2"),
+            ("39", "17,0,0,0,0,0,2"),
+            ("130,4,0,64", "0,1,0,0,0,0,2"),
+            ("39", "3,0,0,0,0,0,2"),
+            ("120", "0,1,0,0,0,0,2"),
+            ("39", "0,1,0,0,0,0,2"),
+            ("121,0", "0,1,0,0,0,0,2"),
+            ("39", "2,0,0,0,0,0,2"),
+            ("136,3", "0,1,0,0,0,0,3"),
+            ("39", "1,0,0,0,0,0,3"),
+            ("120", "0,1,0,0,0,0,3"),
+            ("39", "1,0,0,0,0,0,3"),
+            ("136,1", "0,1,0,0,0,0,1"),
+            ("130,4,0,63", "0,1,0,0,0,0,1"),
+            ("121,74", "0,1,0,0,0,0,1"),
+            ("121,75", "0,1,0,0,0,0,1"),
+            ("39", "3,0,1,0,0,0,2"),
+            ("142", "14,2,0,0,0,0,71,0,63,0,0,74,0,0,0,0"),
+        ],
+    ),
+    (
+        "register_all of a group: 1, 10, then as the queue, and its neighbour stays",
+        &[
+            ("61", "0,1,1,0,0,0,0"),
+            ("79,2", "10,0,0,0,0,0,0"),
+            ("79,1", DONE),
+            ("121,0", DONE),
+            ("79,2", "10,0,0,0,0,0,0"),
+            ("79,1", "2,0,0,0,0,0,0"),
+            ("120", DONE),
+            ("121,71", DONE),
+            ("121,72", DONE),
+            ("79,1", "0,1,2,0,0,0,0"),
+            ("72,1", "0,2,1,1,0,72,0"),
+            ("80,0", YES),
+            ("133,1,4,0,63", DONE),
+            ("79,1", "3,0,1,0,0,0,0"),
+            ("79,2", "10,0,0,0,0,0,0"),
+            ("132,5,0,1", DONE),
+            ("79,1", "1,0,0,0,0,0,0"),
+            ("79,2", "1,0,0,0,0,0,0"),
+            ("120", DONE),
+            ("79,0", "1,0,0,0,0,0,0"),
+            ("132,5,0,0", DONE),
+            ("79,0", DONE),
+        ],
+    ),
+];
+
+fn cases() -> impl Iterator<Item = &'static Case> {
+    MARKED.iter().chain(GROUPS).chain(SEQUENCES)
+}
+
 // A script line with its zeros.
 fn whole(short: &str) -> String {
     let columns = short.split(',').count();
@@ -475,9 +564,7 @@ fn odd_ends() -> bool {
 // All cases as one script with the answers as they stand here, parted by resets and ended by a bad line.
 pub fn one_script() -> (Vec<u8>, Vec<u8>) {
     let (mut script, mut want) = (String::new(), String::new());
-    for (line, answer) in
-        MARKED.iter().chain(GROUPS).flat_map(|case| case.1.iter().chain(&[("150", DONE)]))
-    {
+    for (line, answer) in cases().flat_map(|case| case.1.iter().chain(&[("150", DONE)])) {
         script += &whole(line);
         want += &format!("{answer}\r\n");
     }
@@ -490,7 +577,7 @@ pub fn one_script() -> (Vec<u8>, Vec<u8>) {
 // Every check with its name.
 pub fn all() -> Vec<(String, bool)> {
     let mut checks: Vec<(String, bool)> = Vec::new();
-    for case in MARKED.iter().chain(GROUPS) {
+    for case in cases() {
         checks.push((format!("console: {}", case.0), case_right(case)));
     }
     let (script, want) = one_script();

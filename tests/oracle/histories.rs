@@ -83,6 +83,18 @@ fn staged(maker: &mut Maker, way: Way, queue: &Queue) {
     maker.call(way, &call);
 }
 
+// Mostly short, seldom as long as the console's list may be, and with a 0 somewhere one time in four.
+fn sequence(maker: &mut Maker, way: Way) {
+    let most = if maker.random.chance(60) { 64 } else { 6 };
+    let mut numbers: Vec<u64> =
+        (0..maker.random.between(0, most)).map(|_| number(&mut maker.random)).collect();
+    if !numbers.is_empty() && maker.random.chance(250) {
+        let place = maker.random.place(numbers.len());
+        numbers[place] = 0;
+    }
+    maker.register_all(way, &numbers);
+}
+
 // A call that mostly fits the state, and now and then doesn't.
 pub fn one_call(maker: &mut Maker, way: Way) {
     let queue = maker.queue(way);
@@ -94,7 +106,8 @@ pub fn one_call(maker: &mut Maker, way: Way) {
         6..=9 => maker.call(way, &Call::Pop),
         10..=13 => completed(maker, way, &queue),
         14..=33 => staged(maker, way, &queue),
-        34..=51 => maker.call(way, &Call::Register(undo)),
+        34..=49 => maker.call(way, &Call::Register(undo)),
+        50..=52 => sequence(maker, way),
         _ if queue.issued => completed(maker, way, &queue),
         _ if queue.failed => maker.call(way, &Call::Retry),
         _ => maker.call(way, &Call::Pop),

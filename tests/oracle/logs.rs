@@ -5,7 +5,7 @@ use crate::damage::ROW_DAMAGES;
 use crate::maker::{Maker, Way};
 use crate::rows::{Row, TOP};
 
-const TUNES: [&str; 14] = [
+const TUNES: [&str; 16] = [
     "rrpdpd",
     "rrpftpdrpd",
     "rpftpftph",
@@ -20,6 +20,8 @@ const TUNES: [&str; 14] = [
     "ac",
     "rprprd",
     "rrpfrtpfctpdpd",
+    "spdzpd",
+    "aslpszftpd",
 ];
 
 fn read(maker: &mut Maker, opening: [u64; 3]) {

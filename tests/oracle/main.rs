@@ -1,6 +1,7 @@
 // main.rs: the commands of the test oracle, written from the rules.
 
 mod agree;
+mod atonce;
 mod badlines;
 mod bounds;
 mod calls;
@@ -22,6 +23,7 @@ mod histories;
 mod language;
 mod limits;
 mod limitsmet;
+mod listsagree;
 mod logs;
 mod maker;
 mod questions;
@@ -32,6 +34,8 @@ mod replay;
 mod rows;
 mod scripts;
 mod selftest;
+mod sequences;
+mod sequencesmet;
 mod shrink;
 mod situations;
 mod spoilage;

@@ -160,6 +160,15 @@ impl Maker {
         self.say(&[&[number], &id[..], &given[..]].concat());
     }
 
+    // The list is the console's, which has room for 64 numbers.
+    pub fn register_all(&mut self, way: Way, numbers: &[u64]) {
+        self.list(numbers);
+        match way {
+            Way::Group(id) => self.say(&[79, id]),
+            _ => self.say(&[numbered(way, 9)]),
+        };
+    }
+
     fn complete(&mut self, way: Way, ticket: Ticket, outcome: u64, kept: u64) {
         let Ticket { domain, token, attempt } = ticket;
         let held = (self.console.held_domain, self.console.held_number);
@@ -205,6 +214,8 @@ impl Maker {
             'a' => self.call(way, &Call::Admit(Some(&committed))),
             'e' => self.call(way, &Call::End),
             'c' => self.call(way, &Call::Cancel),
+            's' => self.register_all(way, &[fresh, fresh + 1, fresh + 2]),
+            'z' => self.register_all(way, &[fresh, 0, fresh]),
             // Tokens issued long ago and done: their slots are empty, so the record stays well formed.
             'w' => self.set_field(way, 4, 0, 63),
             'W' => self.set_field(way, 4, 0, 64),

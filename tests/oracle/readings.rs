@@ -11,3 +11,6 @@
 // decided: a refused get leaves `seen`, for a refusal changes nothing.
 // decided: an empty script has an empty line 1, which is bad, as the driver's empty input.
 // decided: may a group be opened says yes exactly if opening a scope would be done.
+// decided: register_all has no limit of numbers: with more than 64 it ends as the 65th register would, by 3, or by 2 for a 0.
+// decided: a recorded list with no number in it gets 1 where the used rows don't fit, and 17 never, for it needs no row.
+// decided: a refused list tells how many were taken, and so which one was refused; that number itself does not come back.

@@ -1,10 +1,12 @@
 // selftest.rs: cases worked out by hand from the rules: the marked cases, the phases, the refusals.
 
+use crate::atonce;
 use crate::fixed;
 use crate::handwork;
 use crate::language;
 use crate::queue::*;
 use crate::rows::TOP;
+use crate::sequences::{self, Took};
 use crate::text::{self, Reading};
 
 struct Tally {
@@ -167,6 +169,74 @@ fn broken_records(tally: &mut Tally) {
     }
 }
 
+// Tokens given out and a list, with how many are taken and the refusal, for both readings of register_all.
+fn whole_lists(tally: &mut Tally) {
+    let many = [7; 1000];
+    let cases: [(usize, &[u64], u64, u64); 14] = [
+        (0, &[], 0, 0),
+        (0, &[7, 8, 9], 3, 0),
+        (0, &[7, 0, 9], 1, 2),
+        (0, &[0, 7], 0, 2),
+        (0, &many[..64], 64, 0),
+        (0, &many[..65], 64, 3),
+        (0, &many, 64, 3),
+        (62, &[7, 8, 9], 2, 3),
+        (62, &[7, 8, 0], 2, 2),
+        (64, &[], 0, 0),
+        (64, &[0], 0, 2),
+        (64, &[7], 0, 3),
+        (65, &[], 0, 1),
+        (65, &[0], 0, 1),
+    ];
+    for (tokens, numbers, taken, refusal) in cases {
+        let queue = Queue { tokens, ..open_scope(5, 0) };
+        let took = sequences::plain(&mut queue.clone(), numbers);
+        let right = took == Took { taken, refusal } && !atonce::plain_differs(&queue, numbers);
+        tally.check(&format!("{} numbers behind {tokens} tokens", numbers.len()), right);
+    }
+}
+
+// The same with a log: its words and used rows, tokens given out, a list; how many are taken, and the refusal.
+fn whole_lists_recorded(tally: &mut Tally) {
+    let cases: [(usize, u64, usize, &[u64], u64, u64); 14] = [
+        (15, 0, 0, &[7, 8], 2, 0),
+        (15, 0, 0, &[7, 8, 9, 10], 3, 17),
+        (15, 0, 0, &[7, 8, 9, 0], 3, 2),
+        (15, 0, 61, &[7, 8, 9, 10], 3, 3),
+        (14, 2, 0, &[7], 0, 17),
+        (15, 3, 0, &[], 0, 0),
+        (15, 3, 0, &[0], 0, 2),
+        (15, 3, 64, &[7], 0, 3),
+        (15, 4, 0, &[], 0, 1),
+        (20_500, 4095, 0, &[7, 8], 1, 17),
+        (20_500, 4096, 0, &[7], 0, 17),
+        (20_500, 4100, 0, &[], 0, 0),
+        (20_500, 4101, 0, &[], 0, 1),
+        (20_500, TOP, 0, &[7], 0, 1),
+    ];
+    for (words, used, tokens, numbers, taken, refusal) in cases {
+        let queue = Queue { tokens, ..open_scope(5, 0) };
+        let (mut log, mut rows) = (vec![0; words], used);
+        let took = sequences::recorded(&mut queue.clone(), &mut log, &mut rows, numbers);
+        let right = (took, rows) == (Took { taken, refusal }, used + taken)
+            && !atonce::recorded_differs(&queue, &vec![0; words], used, numbers);
+        tally.check(&format!("{numbers:?} behind {used} rows of {words} words"), right);
+    }
+}
+
+// What is taken leaves what the single calls leave.
+fn lists_as_single_calls(tally: &mut Tally) {
+    let three =
+        register(&register(&register(&open_scope(5, 0), 7).unwrap().0, 8).unwrap().0, 9).unwrap().0;
+    for list in [&[7, 8, 9][..], &[7, 8, 9, 0, 10]] {
+        let (mut queue, mut log, mut used) = (open_scope(5, 0), [900; 16], 0);
+        sequences::recorded(&mut queue, &mut log, &mut used, list);
+        tally.check("the queue of three single calls", queue == three && used == 3);
+        let rows = [0, 0, 0, 0, 7, 0, 1, 0, 0, 8, 0, 2, 0, 0, 9, 900];
+        tally.check("the rows of three single calls", log == rows);
+    }
+}
+
 fn fixed_answers(tally: &mut Tally) {
     for case in fixed::all() {
         let want = format!("{}{}\r\n", text::HEADER, case.want);
@@ -214,6 +284,9 @@ pub fn run() -> Result<u64, Vec<String>> {
     stage_answers(&mut tally);
     refusal_order(&mut tally);
     broken_records(&mut tally);
+    whole_lists(&mut tally);
+    whole_lists_recorded(&mut tally);
+    lists_as_single_calls(&mut tally);
     fixed_answers(&mut tally);
     rules_alone(&mut tally);
     console_scripts(&mut tally);

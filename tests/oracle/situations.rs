@@ -7,6 +7,7 @@ use crate::limitsmet;
 use crate::questions::drained;
 use crate::queue::{pending, well_formed, Phase, Queue};
 use crate::rows::{Row, TOP};
+use crate::sequencesmet;
 
 pub const NAMES: &[&str] = &[
     "pop: Nothing, issued",
@@ -221,6 +222,9 @@ pub fn met(console: &Console, line: &Row) -> Vec<&'static str> {
     if is_of_groups(number) && groups_fine != groups::is_well_formed(&console.groups) {
         names.push("the clauses and the whole check of groups differ");
     }
+    if sequencesmet::is_sequence(number) {
+        names.extend(sequencesmet::met(console, line));
+    }
     match number {
         10..=18 | 30..=38 | 42 | 43 if well_formed(&console.queue) => {
             at_step(console, &console.queue, line, number % 10, &mut names);
@@ -228,6 +232,7 @@ pub fn met(console: &Console, line: &Row) -> Vec<&'static str> {
                 at_log(console, &mut names);
             }
         }
+        39 if well_formed(&console.queue) => at_log(console, &mut names),
         50 => at_reader(console, &mut names),
         61..=63 if groups_fine => at_groups(console, line, &mut names),
         70..=78 if groups_fine => {

@@ -27,11 +27,11 @@ pub struct Spoilage {
 
 // Every call that looks at a queue, and those that write over it.
 fn is_of_queue(number: u64) -> bool {
-    matches!(number, 0 | 1 | 10..=18 | 20..=38 | 42 | 43 | 50)
+    matches!(number, 0 | 1 | 10..=39 | 42 | 43 | 50)
 }
 
 fn is_of_groups(number: u64) -> bool {
-    matches!(number, 60..=64 | 70..=78 | 80..=89 | 100..=112)
+    matches!(number, 60..=64 | 70..=89 | 100..=112)
 }
 
 fn queue_state(queue: &Queue) -> [u64; 5] {

@@ -104,7 +104,7 @@ fn every_line(queue: &Queue) -> Vec<Vec<u64>> {
         lines.extend((0..3).map(|kind| vec![base + kind, 8]));
         lines.push(vec![base + 3, ticket[0], ticket[1], 0, 0]);
         lines.push(vec![base + 3, ticket[0], ticket[1], 2, 8]);
-        lines.extend((4..9).map(|kind| vec![base + kind]));
+        lines.extend((4..10).map(|kind| vec![base + kind]));
     }
     lines.extend([vec![42], vec![43, ticket[0], ticket[1], 1, 8]]);
     // These come last, for an opening writes over the spoiled record.

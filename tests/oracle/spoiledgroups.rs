@@ -190,8 +190,9 @@ fn every_line(groups: &Groups) -> Lines {
         let ids: &[u64] = if matches!(number, 107 | 110 | 111) { &[0, 99] } else { &[0] };
         lines.extend(ids.iter().map(|id| vec![number, *id]));
     }
-    lines.extend((70..=78).map(|number| vec![number, number % 2 * last, 3, 0, 2]));
-    lines.extend([vec![72, last], vec![88, 99], vec![70, 99, 5], vec![104], vec![61], vec![62]]);
+    lines.extend((70..=79).map(|number| vec![number, number % 2 * last, 3, 0, 2]));
+    lines.extend([vec![72, last], vec![88, 99], vec![70, 99, 5], vec![79, 99]]);
+    lines.extend([vec![104], vec![61], vec![62]]);
     lines.extend([0, 1, last].map(|id| vec![63, id]));
     // A new record comes last, for it writes over the spoiled one.
     lines.extend([vec![64], vec![60, 7]]);

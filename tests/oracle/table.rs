@@ -12,7 +12,8 @@ if a case was never seen, or if this page is not what the command prints.";
 const ANSWERS: &str = "## Answers
 
 For each call how often each case of its answer was seen, and each refusal that it can give. 9 is nowhere: no record makes pop
-give it. A recorded admit without a target never changes the queue, so it can't be given 17.
+give it. A recorded admit without a target never changes the queue, so it can't be given 17. A register_all that is refused may have
+taken numbers before that.
 
 | no. | call | cases | refusals |
 |---|---|---|---|";

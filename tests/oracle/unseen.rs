@@ -9,7 +9,7 @@ pub const LOG: usize = 2;
 pub fn met(number: u64) -> Records {
     let queue = number <= 43;
     let seen = matches!(number, 50 | 110);
-    let log = (30..=38).contains(&number);
+    let log = (30..=39).contains(&number);
     let groups = matches!(number, 60..=89 | 100..=112);
     [queue, seen, log, groups]
 }
