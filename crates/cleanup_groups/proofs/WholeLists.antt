@@ -40,7 +40,7 @@ use Rattle.cleanup_groups.proofs.InTurn.{turn-calls, turn-refused, turn
 -- ---- the call, by where the id is
 module _ (g : Groups) (id : ℕ) where
   -- refused with 1 or 10 it takes none, of an empty list too
-  pub groups-refused : (r : ℕ) → spotOf g id ≡ Spot.Refused r → (numbers : List ℕ) → registeredAllIn g id numbers ≡ tookNoneIn g r
+  groups-refused : (r : ℕ) → spotOf g id ≡ Spot.Refused r → (numbers : List ℕ) → registeredAllIn g id numbers ≡ tookNoneIn g r
   unfolding registeredAllIn
   groups-refused r e numbers = ap (registeredAllAt g numbers) e
 
@@ -69,7 +69,7 @@ module _ (g : Groups) (id : ℕ) where
     groups-dead w n = groups-refused noGroup (dead-spot g id l w n)
 
     -- where the id is found, each is registered in turn
-    pub groups-turn-at : (i : ℕ) → spotOf g id ≡ Spot.At i → (numbers : List ℕ) → registeredAllIn g id numbers ≡ groupsInTurn g id numbers
+    groups-turn-at : (i : ℕ) → spotOf g id ≡ Spot.At i → (numbers : List ℕ) → registeredAllIn g id numbers ≡ groupsInTurn g id numbers
     unfolding registeredAllIn registeredAll
     groups-turn-at i e numbers =
         let s = spot-live g id i l e in
@@ -105,7 +105,7 @@ module _ (g : Groups) (id : ℕ) where
         by-fold (λ (ns : List ℕ) (r : GroupRegisterAllAnswer). r .groups ≡ groupsAfterAll g (registersIn id (take (r .answer .taken) ns))) refl
         (λ n ns. turn-calls g id (n ∷ ns))
 
-    pub groups-taken-within : (numbers : List ℕ) → registeredAllIn g id numbers .answer .taken ≤ length numbers
+    groups-taken-within : (numbers : List ℕ) → registeredAllIn g id numbers .answer .taken ≤ length numbers
     groups-taken-within = by-fold (λ (ns : List ℕ) (r : GroupRegisterAllAnswer). r .answer .taken ≤ length ns) (omega arith) (λ n ns. turn-within g id (n ∷ ns))
 
     -- where a number is left, the separate call of it, behind those that were taken, is refused by the same number
@@ -135,13 +135,13 @@ module _ (g : Groups) (id : ℕ) where
             (i, s .0, s .1, s .2, turn-tokens g id i numbers k l e (omega arith))
 
     -- a sound record of sixteen places stays one
-    pub groups-stay-whole : (numbers : List ℕ) → length (registeredAllIn g id numbers .groups .places) ≡ 16
+    groups-stay-whole : (numbers : List ℕ) → length (registeredAllIn g id numbers .groups .places) ≡ 16
     groups-stay-whole numbers = ap (λ (h : Groups). length (h .places)) (groups-in-turn numbers) ∙ run-whole g (registersIn id (take (registeredAllIn g id numbers .answer .taken) numbers)) l
 
     pub groups-stay-sound : (numbers : List ℕ) → wellGrouped g ≡ true → wellGrouped (registeredAllIn g id numbers .groups) ≡ true
     groups-stay-sound numbers w = ap wellGrouped (groups-in-turn numbers) ∙ run-keeps g (registersIn id (take (registeredAllIn g id numbers .answer .taken) numbers)) l w
 
-    pub groups-stay-sized : (numbers : List ℕ) → AllSized g → AllSized (registeredAllIn g id numbers .groups)
+    groups-stay-sized : (numbers : List ℕ) → AllSized g → AllSized (registeredAllIn g id numbers .groups)
     groups-stay-sized numbers z = subst AllSized (sym (groups-in-turn numbers)) (run-sized g (registersIn id (take (registeredAllIn g id numbers .answer .taken) numbers)) l z)
 
     -- ---- it answers 0 exactly if the id is live in a sound record and all are taken

@@ -39,10 +39,10 @@ all-broken q ns e = hit _ (ap not e)
 
 -- ---- a well-formed one: what is decided of the list, by the separate calls
 -- so many taken, and such a refusal behind them
-pub record Separate (q : Queue) (ns : List ℕ) (taken refusal : ℕ) : Type 0 where
-  pub leaves : grownAll q (take taken ns) ≡ afterAll q (registersOf (take taken ns))
-  pub gives : tokens q (registersOf (take taken ns)) ≡ countedFrom (q .count) taken
-  pub next : refusal ≡ firstDue (firstOrder (afterAll q (registersOf (take taken ns))) (drop taken ns))
+record Separate (q : Queue) (ns : List ℕ) (taken refusal : ℕ) : Type 0 where
+  leaves : grownAll q (take taken ns) ≡ afterAll q (registersOf (take taken ns))
+  gives : tokens q (registersOf (take taken ns)) ≡ countedFrom (q .count) taken
+  next : refusal ≡ firstDue (firstOrder (afterAll q (registersOf (take taken ns))) (drop taken ns))
 
 none-separate : (q : Queue) → Separate q [] 0 done
 unfolding grownAll
@@ -196,11 +196,11 @@ all-empty q = by (wellFormed q) refl
     by false w = hit _ (ap not w) ∙ ap (tookNone q) (sym (hit _ (ap not w)))
 
 -- ---- part by part: each token's number behind the others, and nothing else moves
-pub record Pushed (q : Queue) (numbers : List ℕ) (p : Queue) : Type 0 where
-  pub slots : take (p .count) (p .slots) ≡ take (q .count) (q .slots) ++ numbers
-  pub count : p .count ≡ q .count + length numbers
-  pub selected : LeavesSelected q p
-  pub phase : p .phase ≡ q .phase
+record Pushed (q : Queue) (numbers : List ℕ) (p : Queue) : Type 0 where
+  slots : take (p .count) (p .slots) ≡ take (q .count) (q .slots) ++ numbers
+  count : p .count ≡ q .count + length numbers
+  selected : LeavesSelected q p
+  phase : p .phase ≡ q .phase
 
 pushed-more : (q : Queue) (n : ℕ) (ns : List ℕ) (p : Queue) → length (q .slots) ≡ 64 → q .count < 64 → Pushed (grown q n) ns p → Pushed q (n ∷ ns) p
 pushed-more q n ns p l h r =

@@ -17,6 +17,7 @@ use Rattle.history.specs.Benches.{BenchCall, callOn, wordsGiven, Called,
 use Rattle.history.specs.ListedHistories.{listedTo, listAnswer, ListedHistory, listedOpens, listedCalls, listedTakes}
 use Rattle.history.specs.ListedHistories.{Deed, makesCall, takesList, wordsIn, Did, didNothing, didCall, didList, LeftListed}
 use Rattle.history.proofs.Computed.{made-history}
+use Rattle.history.proofs.WordLogs.{every-append}
 use Rattle.history.proofs.ListMade.{list-made}
 
 pub listed-history : {s : Start} {b : Bench} → ListedHistory s b → History s b
@@ -42,10 +43,6 @@ called-on : {a b c : Bench} {xs ys : List BenchCall} → Called a xs b → Calle
 called-on calledNone m = m
 called-on (calledOne z l) m = calledOne z (called-on l m)
 
-every-on : {A : Type 0} (p : A → Bool) (xs ys : List A) → every p xs ≡ true → every p ys ≡ true → every p (xs ++ ys) ≡ true
-every-on p [] ys h k = k
-every-on p (x ∷ xs) ys h k = pass _ (and-left (p x) (every p xs) h) ∙ every-on p xs ys (and-right (p x) (every p xs) h) k
-
 registers-given : (t : ℕ) (ns : List ℕ) → every isWord ns ≡ true → every wordsGiven (registersBy (take t ns)) ≡ true
 registers-given zero ns h = refl
 registers-given (suc t) [] h = refl
@@ -58,7 +55,7 @@ record ByCalls (a b : Bench) : Type 0 where
   made : Called a calls b
 
 in-front : {a b c : Bench} (xs : List BenchCall) → every wordsGiven xs ≡ true → Called a xs b → ByCalls b c → ByCalls a c
-in-front xs h m l = record { calls = xs ++ l .calls; given = every-on wordsGiven xs (l .calls) h (l .given); made = called-on m (l .made) }
+in-front xs h m l = record { calls = xs ++ l .calls; given = every-append wordsGiven xs (l .calls) ∙ (pass _ h ∙ (l .given)); made = called-on m (l .made) }
 
 by-calls : {a b : Bench} (ds : List Deed) → Did a ds b → every wordsIn ds ≡ true → ByCalls a b
 by-calls [] didNothing h = record { calls = []; given = refl; made = calledNone }

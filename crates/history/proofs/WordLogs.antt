@@ -43,7 +43,7 @@ use Rattle.history.proofs.RowWords.{entry-fits}
 use Rattle.history.proofs.Fitting.{language-spoken-fits}
 
 -- ---- words of whole rows are words exactly if each row's are
-every-append : (p : ℕ → Bool) (xs ys : List ℕ) → every p (xs ++ ys) ≡ (every p xs && every p ys)
+pub every-append : {A : Type 0} (p : A → Bool) (xs ys : List A) → every p (xs ++ ys) ≡ (every p xs && every p ys)
 every-append p [] ys = refl
 every-append p (x ∷ xs) ys = rw (every-append p xs ys) (sym (and-assoc (p x) (every p xs) (every p ys)))
 

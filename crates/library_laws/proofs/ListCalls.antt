@@ -24,11 +24,7 @@ use Rattle.history.proofs.ListMade.{list-made}
 use Rattle.library_laws.specs.CallWords.{WordCall}
 use Rattle.library_laws.specs.Sessions.{Session, session, loggedBy, loggedAll, loggedTo, LibraryCall, sessionAfter, sessionAfterAll, registersEach}
 use Rattle.library_laws.proofs.AsCalls.{register-as, register-logged}
-use Rattle.library_laws.proofs.WholeLists.{all-as-the-call, all-no-record, all-logged-as-the-call, all-no-record-logged}
-
--- the session that a bench is
-abbrev sessionOf : Bench → Session
-sessionOf b = session (wordsOf (b .queue)) (b .log) (b .used)
+use Rattle.library_laws.proofs.WholeLists.{sessionOf, all-as-the-call, all-no-record, all-logged-as-the-call, all-no-record-logged}
 
 -- ---- a register on a record's words
 module _ (q : Queue) (z : Sized q) (n : ℕ) where

@@ -65,6 +65,10 @@ module _ (ws ns : List ℕ) where
           ∙ (ap wordsOf (all-none (queueOf ws) ns (sym (ap (λ (x : Exported). word (x .answer) atValue) c) ∙ z)) ∙ words-again ws e)
 
 -- ---- recorded
+-- the session that a bench is
+abbrev pub sessionOf : Bench → Session
+sessionOf b = session (wordsOf (b .queue)) (b .log) (b .used)
+
 module _ (s : Session) (ns : List ℕ) where
   -- the bench that the session's words are
   abbrev at : Bench
@@ -77,10 +81,6 @@ module _ (s : Session) (ns : List ℕ) where
   pub all-no-record-logged : encodes (s .words) ≡ false → loggedAll s ns ≡ recordedOn (writtenAs plainWords (says broken (0 ∷ [])) (s .words)) (s .log) (s .used)
   unfolding registerAllRecordedOn
   all-no-record-logged e = hit _ (ap not e)
-
-  -- the session is the bench's, and the bench's words
-  abbrev sessionOf : Bench → Session
-  sessionOf b = session (wordsOf (b .queue)) (b .log) (b .used)
 
   pub all-logged-to : encodes (s .words) ≡ true → loggedTo (loggedAll s ns) ≡ sessionOf (listedTo at ns)
   all-logged-to e = ap loggedTo (all-logged-as-the-call e)

@@ -59,13 +59,10 @@ taken-room (n ∷ ns) count h =
 
 -- ---- the copy
 -- the taken numbers are its first ones
-pub copied-front : (numbers : List ℕ) (n m : ℕ) → n ≤ m → m ≤ length numbers → take n (copied numbers m) ≡ take n numbers
+copied-front : (numbers : List ℕ) (n m : ℕ) → n ≤ m → m ≤ length numbers → take n (copied numbers m) ≡ take n numbers
 copied-front numbers n m h l =
     let k : length (take m numbers) ≡ m = length-take-le m numbers l in
     take-append-le n (take m numbers) (replicate (64 - m) 0) (omega arith) ∙ take-take n m numbers h
-
-pub copied-none : (given : List ℕ) → replicate 64 0 ≡ copied given 0
-copied-none given = refl
 
 pub copied-more : (given : List ℕ) (i : ℕ) → i < 64 → i < length given → set (copied given i) i (getD given i 0) ≡ copied given (i + 1)
 copied-more given i h l =
