@@ -11,6 +11,6 @@ same_set_spec =
     tie.close
     (tie.spec
     (λ c κs. search rules)
-    (λ c. says _ _ _ (sym (same_not _ _ (sym c.before.inside.ensures ∙ not-true _ c.if1.true))))
+    (λ c. says _ _ _ (sym (same_not _ _ (sym c.before.inside.ensures ∙ not-true _ c.if-not-inside.true-raw))))
     (λ c κs. search rules)
-    (λ c. says _ _ _ (c.inside2.ensures ∙ sym (same_back _ _ (sym c.before.before.inside.ensures ∙ not-false _ c.before.if1.false)))))
+    (λ c. says _ _ _ (c.inside-2.ensures ∙ sym (same_back _ _ (sym c.before.before.inside.ensures ∙ not-false _ c.before.if-not-inside.false-raw)))))

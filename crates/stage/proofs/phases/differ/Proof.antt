@@ -9,4 +9,4 @@ differ_spec =
     (tie.spec
     (λ c κs. search rules)
     (λ c κs. search rules)
-    (λ c. rw (c.before.phase-number.ensures, c.phase-number2.ensures)))
+    (λ c. rw (c.before.phase_number.ensures, c.phase_number-2.ensures)))

@@ -9,12 +9,12 @@ pub phase_at_spec : {M : Type 1} → statement M
 phase_at_spec =
     tie.close
     (tie.spec
-    (λ c. sym (hit _ (eq-eqb _ _ c.if1.true)))
-    (λ c. sym (miss _ (ne_eqb _ _ c.before.if1.false) ∙ hit _ (eq-eqb _ _ c.if2.true)))
-    (λ c. sym (miss _ (ne_eqb _ _ c.before.before.if1.false) ∙ (miss _ (ne_eqb _ _ c.before.if2.false) ∙ hit _ (eq-eqb _ _ c.if3.true))))
+    (λ c. sym (hit _ (eq-eqb _ _ c.if-number-eq0.true)))
+    (λ c. sym (miss _ (ne_eqb _ _ c.before.if-number-eq0.false) ∙ hit _ (eq-eqb _ _ c.if-number-eq1.true)))
+    (λ c. sym (miss _ (ne_eqb _ _ c.before.before.if-number-eq0.false) ∙ (miss _ (ne_eqb _ _ c.before.if-number-eq1.false) ∙ hit _ (eq-eqb _ _ c.if-number-eq2.true))))
     (λ c.
-    sym (miss _ (ne_eqb _ _ c.before.before.before.if1.false)
-    ∙ (miss _ (ne_eqb _ _ c.before.before.if2.false) ∙ (miss _ (ne_eqb _ _ c.before.if3.false) ∙ hit _ (eq-eqb _ _ c.if4.true)))))
+    sym (miss _ (ne_eqb _ _ c.before.before.before.if-number-eq0.false)
+    ∙ (miss _ (ne_eqb _ _ c.before.before.if-number-eq1.false) ∙ (miss _ (ne_eqb _ _ c.before.if-number-eq2.false) ∙ hit _ (eq-eqb _ _ c.if-number-eq3.true)))))
     (λ c.
-    sym (miss _ (ne_eqb _ _ c.before.before.before.if1.false)
-    ∙ (miss _ (ne_eqb _ _ c.before.before.if2.false) ∙ (miss _ (ne_eqb _ _ c.before.if3.false) ∙ miss _ (ne_eqb _ _ c.if4.false))))))
+    sym (miss _ (ne_eqb _ _ c.before.before.before.if-number-eq0.false)
+    ∙ (miss _ (ne_eqb _ _ c.before.before.if-number-eq1.false) ∙ (miss _ (ne_eqb _ _ c.before.if-number-eq2.false) ∙ miss _ (ne_eqb _ _ c.if-number-eq3.false))))))
