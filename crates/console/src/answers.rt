@@ -6,7 +6,7 @@ use cleanup_queue::{
     Cancelled, Completed, DomainTold, Opened, Popped, Registered, RegisteredAll, Retried, Told,
 };
 
-#[derive(Drop)]
+#[derive(Clone, Copy)]
 pub struct Said {
     pub result: u64,
     pub case: u64,

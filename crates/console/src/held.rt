@@ -6,7 +6,7 @@ use crate::answers::Said;
 use cleanup_groups::Groups;
 use cleanup_queue::Queue;
 
-#[derive(Drop)]
+#[derive(Clone, Copy)]
 pub struct Held {
     pub queue: Queue,
     // The queue that the reader or a get gave last.
@@ -43,7 +43,7 @@ pub fn first_groups() -> Groups {
     made.groups
 }
 
-#[derive(Drop)]
+#[derive(Clone, Copy)]
 pub struct Turned {
     pub said: Said,
     pub held: Held,
@@ -63,7 +63,7 @@ pub fn no_call(h: Held) -> Turned {
 }
 
 // What a call of the queue leaves.
-#[derive(Drop)]
+#[derive(Clone, Copy)]
 pub struct Left {
     pub said: Said,
     pub queue: Queue,

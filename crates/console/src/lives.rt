@@ -4,7 +4,7 @@ use crate::answers::Said;
 use crate::script::Call;
 use cleanup_groups::Groups;
 
-#[derive(Drop)]
+#[derive(Clone, Copy)]
 pub struct Grouped {
     pub said: Said,
     pub groups: Groups,

@@ -1,7 +1,7 @@
 // Lines of decimals on standard output, put together on a page and written when they end or fill it.
 use libc::STDOUT_FILENO;
 
-#[derive(Drop)]
+#[derive(Clone, Copy)]
 pub struct Pen {
     // How much of the page is filled.
     pub at: usize,

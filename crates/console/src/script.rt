@@ -4,7 +4,7 @@ ghost use Rattle.io.specs.Counts.{IsPrefixLen};
 use csv::{Line, line_at};
 use libc::STDIN_FILENO;
 
-#[derive(Drop)]
+#[derive(Clone, Copy)]
 pub struct Call {
     pub number: u64,
     pub a: u64,
@@ -14,7 +14,7 @@ pub struct Call {
 }
 
 // The bytes of the chunk that are read and not yet looked at.
-#[derive(Drop)]
+#[derive(Clone, Copy)]
 pub struct Input {
     pub at: usize,
     pub end: usize,
@@ -29,7 +29,7 @@ fn refilled(chunk: &mut [u8; 4096], input: Input) -> Input {
     Input { at: 0, end: end }
 }
 
-#[derive(Drop)]
+#[derive(Clone, Copy)]
 enum Next {
     Byte(u8, Input),
     NoByte,
@@ -53,7 +53,7 @@ fn next_byte(chunk: &mut [u8; 4096], input: Input) -> Next {
     )
 }
 
-#[derive(Drop)]
+#[derive(Clone, Copy)]
 struct Gathered {
     pub count: usize,
     pub input: Input,
@@ -83,7 +83,7 @@ fn gather(chunk: &mut [u8; 4096], input: Input, line: &mut [u8]) -> Gathered
     }
 }
 
-#[derive(Drop)]
+#[derive(Clone, Copy)]
 pub enum Step {
     Obey(Call, Input),
     BadText,

@@ -6,7 +6,7 @@ use crate::script::Call;
 use crate::{answers, asked, grouped, lives, out, places, plain, recorded, setting, showing};
 use cleanup_groups::{Got, Groups};
 
-#[derive(Drop)]
+#[derive(Clone, Copy)]
 pub enum Subject {
     // The queue, the log and what else is held.
     Held,

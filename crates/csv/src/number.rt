@@ -2,7 +2,7 @@
 ghost use Rattle.std.specs.Prelude.{◌≡◌, drop};
 ghost use Rattle.csv.specs.Reading.{is_digit, digit_of, takes, more_digits, number_at};
 
-#[derive(Drop)]
+#[derive(Clone, Copy)]
 pub enum Number {
     // The value, and the place behind it.
     Of(u64, usize),

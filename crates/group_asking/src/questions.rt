@@ -6,7 +6,7 @@ use group_record::Place;
 use queue_questions::{Told, can_finish, can_retry, is_empty};
 use queue_record::{Queue, is_blank, well_formed};
 
-#[derive(Drop)]
+#[derive(Clone, Copy)]
 pub enum Question {
     // The place is free.
     Free,

@@ -11,7 +11,7 @@ use queue_record::refusal::{BROKEN, NO_GROUP};
 use queue_record::{Found, Queue, blank};
 
 // The place that is live under an id, or why a call by this id is refused.
-#[derive(Drop)]
+#[derive(Clone, Copy)]
 pub enum Spot {
     At(usize),
     Refused(u64),
@@ -39,13 +39,13 @@ pub fn look_up(g: Groups, id: u64) -> Spot
     Spot::At(place as usize)
 }
 
-#[derive(Drop)]
+#[derive(Clone, Copy)]
 pub enum Got {
     Group,
     Refused(u64),
 }
 
-#[derive(Drop)]
+#[derive(Clone, Copy)]
 pub struct GetAnswer {
     pub answer: Got,
     pub queue: Queue,

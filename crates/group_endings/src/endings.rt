@@ -9,13 +9,13 @@ use group_record::{Groups, free_place, put_place, sealed_of};
 use queue_record::Opened;
 use queue_record::refusal::NOT_DRAINED;
 
-#[derive(Drop)]
+#[derive(Clone, Copy)]
 pub enum Closed {
     Done,
     Refused(u64),
 }
 
-#[derive(Drop)]
+#[derive(Clone, Copy)]
 pub struct CloseAnswer {
     pub answer: Closed,
     pub groups: Groups,

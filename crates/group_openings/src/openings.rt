@@ -8,7 +8,7 @@ use group_record::{Groups, empty, put_new};
 use queue_record::refusal::{BROKEN, GROUPS_FULL, NO_ID, SEALED};
 use queue_record::{Found, OpenAnswer, Opened, Queue, iterator, scope};
 
-#[derive(Drop)]
+#[derive(Clone, Copy)]
 pub struct NewAnswer {
     pub answer: Opened,
     pub groups: Groups,
@@ -61,13 +61,13 @@ fn room(g: Groups) -> Spot
     Spot::At(place as usize)
 }
 
-#[derive(Drop)]
+#[derive(Clone, Copy)]
 pub enum Added {
     Id(u64),
     Refused(u64),
 }
 
-#[derive(Drop)]
+#[derive(Clone, Copy)]
 pub struct AddAnswer {
     pub answer: Added,
     pub groups: Groups,

@@ -1,7 +1,7 @@
 // R96: the parts of a group record. Any value of these types is a legal argument of every call.
 use queue_record::Queue;
 
-#[derive(Drop)]
+#[derive(Clone, Copy)]
 pub struct Place {
     // 0 in a free place.
     pub id: u64,
@@ -10,7 +10,7 @@ pub struct Place {
     pub queue: Queue,
 }
 
-#[derive(Drop)]
+#[derive(Clone, Copy)]
 pub struct Groups {
     pub base: u64,
     // The id that the next opening gives.

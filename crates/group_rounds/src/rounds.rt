@@ -8,7 +8,7 @@ use group_survey::may_retry_all;
 use queue_questions::Told;
 use queue_record::refusal::BROKEN;
 
-#[derive(Drop)]
+#[derive(Clone, Copy)]
 pub struct RetryAllAnswer {
     pub answer: Told,
     pub groups: Groups,

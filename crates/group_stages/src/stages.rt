@@ -7,7 +7,7 @@ use group_record::{Groups, put_queue};
 use queue_questions::Told;
 use queue_stages::Cancelled;
 
-#[derive(Drop)]
+#[derive(Clone, Copy)]
 pub struct GroupStageAnswer {
     pub answer: Told,
     pub groups: Groups,
@@ -81,7 +81,7 @@ pub fn end(g: Groups, id: u64) -> GroupStageAnswer
     }
 }
 
-#[derive(Drop)]
+#[derive(Clone, Copy)]
 pub struct GroupCancelAnswer {
     pub answer: Cancelled,
     pub groups: Groups,

@@ -7,7 +7,7 @@ use group_record::{Groups, put_queue};
 use queue_record::Ticket;
 use queue_steps::{Completed, Popped, Retried};
 
-#[derive(Drop)]
+#[derive(Clone, Copy)]
 pub struct GroupPopAnswer {
     pub answer: Popped,
     pub groups: Groups,
@@ -35,7 +35,7 @@ pub fn pop(g: Groups, id: u64) -> GroupPopAnswer
     }
 }
 
-#[derive(Drop)]
+#[derive(Clone, Copy)]
 pub struct GroupCompleteAnswer {
     pub answer: Completed,
     pub groups: Groups,
@@ -63,7 +63,7 @@ pub fn complete(g: Groups, id: u64, ticket: Ticket, outcome: u64, kept: u64) -> 
     }
 }
 
-#[derive(Drop)]
+#[derive(Clone, Copy)]
 pub struct GroupRetryAnswer {
     pub answer: Retried,
     pub groups: Groups,

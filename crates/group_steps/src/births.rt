@@ -6,7 +6,7 @@ use group_check::{Spot, look_up, queue_at};
 use group_record::{Groups, put_queue};
 use queue_births::Registered;
 
-#[derive(Drop)]
+#[derive(Clone, Copy)]
 pub struct GroupRegisterAnswer {
     pub answer: Registered,
     pub groups: Groups,

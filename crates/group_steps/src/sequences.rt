@@ -6,7 +6,7 @@ use group_check::{Spot, look_up, queue_at};
 use group_record::{Groups, put_queue};
 use queue_births::RegisteredAll;
 
-#[derive(Drop)]
+#[derive(Clone, Copy)]
 pub struct GroupRegisterAllAnswer {
     pub answer: RegisteredAll,
     pub groups: Groups,

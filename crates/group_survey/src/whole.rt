@@ -118,7 +118,7 @@ pub fn can_add(g: Groups) -> Told
     say(has_room(g))
 }
 
-#[derive(Drop)]
+#[derive(Clone, Copy)]
 pub enum LenTold {
     Live(u64),
     Refused(u64),

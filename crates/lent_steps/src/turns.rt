@@ -6,7 +6,7 @@ use queue_lent::{complete_lent, pop_lent};
 use queue_record::{Queue, Ticket};
 use queue_steps::{Completed, Popped};
 
-#[derive(Drop)]
+#[derive(Clone, Copy)]
 pub struct TurnAnswer {
     pub popped: Popped,
     pub completed: Completed,

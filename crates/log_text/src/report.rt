@@ -3,7 +3,7 @@ ghost use Rattle.std.specs.Prelude.{◌≡◌, ◌++◌, ◌+◌, ◌*◌, ◌�
 ghost use Rattle.csv.specs.Form.{decimal};
 ghost use Rattle.log_text.specs.Report.{pasted, fields, report_text};
 
-#[derive(Drop)]
+#[derive(Clone, Copy)]
 pub struct Figures {
     pub result: u64,
     pub rows: u64,

@@ -7,14 +7,14 @@ use queue_record::refusal::BROKEN;
 use queue_record::{Queue, move_to, well_formed};
 use stage::Event;
 
-#[derive(Drop)]
+#[derive(Clone, Copy)]
 pub enum Registered {
     Token(u64),
     // The refusal's number, and the undo number given.
     Refused(u64, u64),
 }
 
-#[derive(Drop)]
+#[derive(Clone, Copy)]
 pub struct RegisterAnswer {
     pub answer: Registered,
     pub queue: Queue,

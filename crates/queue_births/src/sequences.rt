@@ -8,13 +8,13 @@ use queue_record::refusal::BROKEN;
 use queue_record::{Queue, well_formed};
 
 // How many were taken, and what refused the next one, or the whole list; 0 where nothing did.
-#[derive(Drop)]
+#[derive(Clone, Copy)]
 pub struct RegisteredAll {
     pub taken: u64,
     pub refusal: u64,
 }
 
-#[derive(Drop)]
+#[derive(Clone, Copy)]
 pub struct RegisterAllAnswer {
     pub answer: RegisteredAll,
     pub queue: Queue,

@@ -6,7 +6,7 @@ use crate::slots::{NO_MORE, slot_at};
 use queue_record::refusal::{HOLLOW, NO_ATTEMPT};
 use queue_record::{Found, Selection, Ticket, newest_place};
 
-#[derive(Drop)]
+#[derive(Clone, Copy)]
 pub enum Due {
     Nothing,
     // The refusal's number.

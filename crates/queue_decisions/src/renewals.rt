@@ -6,7 +6,7 @@ use crate::slots::{NO_MORE, slot_at};
 use queue_record::refusal::{NO_FURTHER_ATTEMPT, NO_RETRY, NOTHING_KEPT};
 use queue_record::{Selection, Ticket};
 
-#[derive(Drop)]
+#[derive(Clone, Copy)]
 pub enum Renewal {
     Of(Ticket),
     Refused(u64),

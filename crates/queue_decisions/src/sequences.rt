@@ -5,7 +5,7 @@ ghost use Rattle.queue_decisions.specs.Sequences.{taking_of};
 use crate::births::register_refusal;
 
 // A copy of the numbers that are taken, with 0 behind them; how many they are; what refuses the next one, 0 where none is left.
-#[derive(Drop)]
+#[derive(Clone, Copy)]
 pub struct Taking {
     pub numbers: [u64; 64],
     pub taken: u64,

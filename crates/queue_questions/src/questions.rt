@@ -8,7 +8,7 @@ use queue_record::refusal::BROKEN;
 use queue_record::{Found, Queue, Selection, newest_place, well_formed};
 use stage::Phase;
 
-#[derive(Drop)]
+#[derive(Clone, Copy)]
 pub enum Told {
     Yes,
     No,
@@ -138,7 +138,7 @@ pub fn can_finish(q: Queue, target: &[u64]) -> Told
     say(may_finish(selection, phase, target, &bindings[..bound]))
 }
 
-#[derive(Drop)]
+#[derive(Clone, Copy)]
 pub enum DomainTold {
     Is(u64),
     Refused(u64),

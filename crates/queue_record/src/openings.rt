@@ -8,20 +8,20 @@ use crate::refusal::TOO_MANY_BINDINGS;
 use stage::Phase;
 
 // What a queue is opened as. A struct that lends a slice would want its proofs by hand, so an iterator's bindings go beside it.
-#[derive(Drop)]
+#[derive(Clone, Copy)]
 pub struct Heading {
     pub kind: Kind,
     pub domain: u64,
     pub first: u64,
 }
 
-#[derive(Drop)]
+#[derive(Clone, Copy)]
 pub enum Opened {
     Open,
     Refused(u64),
 }
 
-#[derive(Drop)]
+#[derive(Clone, Copy)]
 pub struct OpenAnswer {
     pub answer: Opened,
     pub queue: Queue,

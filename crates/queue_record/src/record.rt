@@ -1,26 +1,26 @@
 // R1 to R10: the parts of a queue record. Any value of these types is a legal argument of every call.
 use stage::Phase;
 
-#[derive(Drop)]
+#[derive(Clone, Copy)]
 pub enum Kind {
     Scope,
     Iterator,
 }
 
-#[derive(Drop)]
+#[derive(Clone, Copy)]
 pub struct Ticket {
     pub domain: u64,
     pub token: u64,
     pub attempt: u64,
 }
 
-#[derive(Drop)]
+#[derive(Clone, Copy)]
 pub enum Selection {
     Free,
     Of(Ticket),
 }
 
-#[derive(Drop)]
+#[derive(Clone, Copy)]
 pub struct Queue {
     pub kind: Kind,
     pub domain: u64,

@@ -8,7 +8,7 @@ use queue_record::refusal::BROKEN;
 use queue_record::{Queue, move_to, well_formed};
 use stage::{Event, Phase};
 
-#[derive(Drop)]
+#[derive(Clone, Copy)]
 pub struct StageAnswer {
     pub answer: Told,
     pub queue: Queue,
@@ -86,13 +86,13 @@ pub fn end(q: Queue) -> StageAnswer
     }
 }
 
-#[derive(Drop)]
+#[derive(Clone, Copy)]
 pub enum Cancelled {
     Done,
     Refused(u64),
 }
 
-#[derive(Drop)]
+#[derive(Clone, Copy)]
 pub struct CancelAnswer {
     pub answer: Cancelled,
     pub queue: Queue,

@@ -6,14 +6,14 @@ use queue_decisions::{Due, Renewal, complete_refusal, number_due, pop_due, retry
 use queue_record::refusal::BROKEN;
 use queue_record::{Queue, Selection, Ticket, select, well_formed};
 
-#[derive(Drop)]
+#[derive(Clone, Copy)]
 pub enum Popped {
     Work(Ticket, u64),
     Nothing,
     Refused(u64),
 }
 
-#[derive(Drop)]
+#[derive(Clone, Copy)]
 pub struct PopAnswer {
     pub answer: Popped,
     pub queue: Queue,
@@ -74,14 +74,14 @@ pub fn pop(q: Queue) -> PopAnswer
     }
 }
 
-#[derive(Drop)]
+#[derive(Clone, Copy)]
 pub enum Completed {
     Settled,
     // The refusal's number, and the kept number given.
     Refused(u64, u64),
 }
 
-#[derive(Drop)]
+#[derive(Clone, Copy)]
 pub struct CompleteAnswer {
     pub answer: Completed,
     pub queue: Queue,
@@ -130,13 +130,13 @@ pub fn complete(q: Queue, ticket: Ticket, outcome: u64, kept: u64) -> CompleteAn
     }
 }
 
-#[derive(Drop)]
+#[derive(Clone, Copy)]
 pub enum Retried {
     Again(Ticket),
     Refused(u64),
 }
 
-#[derive(Drop)]
+#[derive(Clone, Copy)]
 pub struct RetryAnswer {
     pub answer: Retried,
     pub queue: Queue,

@@ -2,7 +2,7 @@
 ghost use Rattle.std.specs.Prelude.{◌≡◌};
 ghost use Rattle.stage.specs.Phases.{phase_after, is_pending, is_settled, is_cancelled, phase_number, event_number, phase_at, differs};
 
-#[derive(Drop)]
+#[derive(Clone, Copy)]
 pub enum Phase {
     Idle,
     Pending,
@@ -11,7 +11,7 @@ pub enum Phase {
     Closed,
 }
 
-#[derive(Drop)]
+#[derive(Clone, Copy)]
 pub enum Event {
     Admit,
     Land,
