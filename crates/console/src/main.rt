@@ -1,4 +1,5 @@
 // The console: a script of calls on standard input, the answer to each line on standard output.
+#![tactic(auto)]
 mod answers;
 mod asked;
 mod fields;

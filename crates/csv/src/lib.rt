@@ -1,4 +1,5 @@
 // R125, R126: decimals, and lines of five of them, on lent bytes.
+#![tactic(auto)]
 mod line;
 mod number;
 

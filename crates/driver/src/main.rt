@@ -1,4 +1,5 @@
 // The driver: a log's text on standard input, the reader's answer on standard output.
+#![tactic(auto)]
 use libc::{STDIN_FILENO, STDOUT_FILENO};
 use log_text::respond;
 

@@ -1,5 +1,6 @@
 // The driver over many texts in one run, for tests: frames on standard input, an answer for each on standard output.
 // A frame is eight digits, the text's length, a line feed, and the text.
+#![tactic(auto)]
 ghost use Rattle.std.specs.Prelude.{◌≤◌};
 
 use libc::{STDIN_FILENO, STDOUT_FILENO};
