@@ -237,6 +237,13 @@ def rewritten(text, start, end, env, sigs, tree, expected):
 def turned(text, entry):
     tree = Tree(entry)
     sigs, bodies = definitions(text)
+    # A step of a place that a helper leads to is a step of where it leads from.
+    helper = "|".join(re.escape(n) for n in sigs if sigs[n][1])
+    if helper:
+        through = re.compile(r"\((?:" + helper + r") (?P<v>[a-z]\w*'?(?:\.before)*|\((?:" + helper + r") [a-z]\w*'?(?:\.before)*\))\)(?=(?:\.before)*\.(?P<s>" + W + "))")
+        for _ in range(6):
+            text = through.sub(lambda m: re.sub(r"(\.before)+$", "", m["v"]) if norm(m["s"]) in tree.steps or m["s"] in OUTER else m[0], text)
+    sigs, bodies = definitions(text)
     edits = []
     for name, params, start, end in bodies:
         spec = text.find("tie.spec", start, end)
@@ -287,7 +294,7 @@ def renamed(text, tree):
             new = tree.fields.get(previous[0], {}).get(plain, plain)
         elif dot and previous and previous[1] and previous[0] in tree.loops and word == "inv":
             new = "invariant"
-        elif dot and key in FIELDS and not (previous and (previous[2] == "before" or re.fullmatch(r"[a-z]\d?", previous[2]))):
+        elif dot and key in FIELDS and not (text[m.start() - 2] != ")" and previous and (previous[2] == "before" or re.fullmatch(r"[cde]\d?", previous[2]))):
             pass
         elif dot and key in tree.steps and not (previous and previous[2] in ("args", "ranges", "given", "result", "proofs", "specs")) and not in_use(text, m.start()):
             new = tree.steps[key]
