@@ -237,6 +237,8 @@ def rewritten(text, start, end, env, sigs, tree, expected):
 def turned(text, entry):
     tree = Tree(entry)
     sigs, bodies = definitions(text)
+    # A field of a place further out is cited without the way to it.
+    text = re.sub(r"(?:\.before)+(?=\.(" + W + "))", lambda m: "" if norm(m[1]) in tree.steps or re.sub("-lem$", "", norm(m[1])) in tree.steps or m[1] in OUTER else m[0], text)
     # A step of a place that a helper leads to is a step of where it leads from.
     helper = "|".join(re.escape(n) for n in sigs if sigs[n][1])
     if helper:
