@@ -40,6 +40,8 @@ class Tree:
                 for field, step, path in arm[2]:
                     if path:
                         self.arms[(norm(step), tuple(path))] = (arm[0], field)
+        for now in list(self.steps.values()):
+            self.steps.setdefault(norm(now), now)
         for was, now in entry["needs"]:
             self.needs.setdefault(norm(was), now)
         self.asked = [norm(a) for a, _ in entry["asked_at"]]
@@ -258,7 +260,7 @@ def turned(text, entry):
                 if len(args) != len(tree.asked):
                     print("look: the needs' count differs")
             for (a, b), place in zip(args, tree.asked):
-                lam = re.compile(r"\(\s*λ ([a-z]\w*)((?: \S+)*?)\. ?").match(text, a)
+                lam = re.compile(r"\(\s*λ ([a-z]\w*)((?: [^\s.]+)*?)\. ?").match(text, a)
                 if lam:
                     edits += rewritten(text, lam.end(), b - 1, {lam[1]: place}, sigs, tree, None)
             continue
