@@ -19,7 +19,7 @@ CHAIN = re.compile(r"(?<![.\w\"'-])(?P<base>[a-z]\w*'?)(?P<way>(?:\.before)*)(?P
 norm = lambda it: it.replace("_", "-")
 # Fields of the repository's own structs: behind a value such a word is no step.
 FIELDS = set()
-OUTER = ("args", "ranges", "requires", "type_inv", "utf8", "lifetimes")
+OUTER = ("args", "ranges", "requires", "pre", "type_inv", "utf8", "lifetimes")
 PLACE = r"tie\.(?P<p>[A-Z]" + r"[^\s(){}.;,@\"«»\[\]\\]*" + ")"
 
 
@@ -302,6 +302,8 @@ def renamed(text, tree):
             pass
         elif dot and key in tree.steps and not (previous and previous[2] in ("args", "ranges", "given", "result", "proofs", "specs")) and not in_use(text, m.start()):
             new = tree.steps[key]
+        elif dot and word == "pre" and not in_use(text, m.start()):
+            new = "requires"
         elif dot and previous and previous[2] in ("args", "ranges"):
             new = word.replace("-", "_")
         previous = (key, dot and key in tree.steps, word)
