@@ -1,7 +1,7 @@
 // The script on standard input, line by line: what has come is answered before more is waited for.
 ghost use Rattle.io.specs.Counts.{IsPrefixLen};
 
-use csv::{Line, line_at};
+use csv_lines::{Line, line_at};
 use libc::STDIN_FILENO;
 
 #[derive(Clone, Copy)]

@@ -1,6 +1,6 @@
 // R132: the answer as two lines of text, put into a lent buffer.
 ghost use Rattle.std.specs.Prelude.{◌≡◌, ◌++◌, ◌+◌, ◌*◌, ◌≤◌, length};
-ghost use Rattle.csv.specs.Form.{decimal};
+ghost use Rattle.csv_lines.specs.Form.{decimal};
 ghost use Rattle.log_text.specs.Report.{pasted, fields, report_text};
 
 #[derive(Clone, Copy)]
