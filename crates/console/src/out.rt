@@ -24,10 +24,8 @@ fn put(page: &mut [u8; 4096], pen: Pen, byte: u8) -> Pen {
 
 fn put_all(page: &mut [u8; 4096], pen: Pen, bytes: &[u8]) -> Pen {
     let mut now = pen;
-    let mut i = 0;
-    while i < bytes.len() {
-        now = put(page, now, bytes[i]);
-        i += 1;
+    for byte in bytes {
+        now = put(page, now, *byte);
     }
     now
 }
@@ -75,10 +73,8 @@ pub fn numbers<W: Write>(
     values: &[u64],
 ) -> io::Result<Pen> {
     let mut now = pen;
-    let mut i = 0;
-    while i < values.len() {
-        now = number(output, page, now, values[i])?;
-        i += 1;
+    for value in values {
+        now = number(output, page, now, *value)?;
     }
     Ok(now)
 }

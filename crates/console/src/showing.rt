@@ -100,14 +100,11 @@ pub fn show_groups<W: Write>(
     let three = [g.base, g.next, bit(g.sealed)];
     let first = numbers(output, page, pen, &three)?;
     let mut now = end_line(output, page, first)?;
-    let mut i = 0;
-    while i < 16 {
-        let place = g.places[i];
+    for place in &g.places {
         let q = place.queue;
         let two = [place.id, bit(place.live)];
         let named = numbers(output, page, now, &two)?;
         now = show_queue(output, page, named, q)?;
-        i += 1;
     }
     Ok(now)
 }
