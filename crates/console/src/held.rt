@@ -1,5 +1,5 @@
 // What the console holds beside the log and the group record, and what a line leaves of it.
-ghost use Rattle.io.specs.Counts.{IsPrefixLen};
+ghost use Rattle.std.specs.Prelude.{◌≡◌, ◌≤◌, length, take};
 
 use crate::answers;
 use crate::answers::Said;
@@ -95,7 +95,8 @@ pub fn keep_seen(h: Held, q: Queue, said: Said) -> Turned {
 
 // As many as asked for, or as there are.
 pub fn first_of(asked: usize, words: &[u64]) -> usize
-    ensures { IsPrefixLen result words.now }
+    ensures within { result ≤ length words.now }
+    ensures prefix_len { result ≡ length (take result words.now) }
 {
     if asked <= words.len() {
         return asked;

@@ -1,5 +1,6 @@
 // The console: a script of calls on standard input, the answer to each line on standard output.
 #![tactic(auto)]
+
 mod answers;
 mod asked;
 mod fields;
@@ -16,9 +17,17 @@ mod setting;
 mod showing;
 mod subjects;
 
-fn main() {
+use std::io;
+
+fn main(rt: HostRuntime) -> io::Result<()> {
     let mut log = [0u64; 20500];
     let mut chunk = [0u8; 4096];
     let mut page = [0u8; 4096];
-    run::run(&mut log, &mut chunk, &mut page);
+    run::run(
+        &mut rt.stdin(),
+        &mut rt.stdout(),
+        &mut log,
+        &mut chunk,
+        &mut page,
+    )
 }

@@ -1,16 +1,16 @@
 // Lines of decimals on standard output, put together on a page and written when they end or fill it.
-use libc::STDOUT_FILENO;
+use csv_lines::decimal;
+use std::io;
+use std::io::Write;
 
 #[derive(Clone, Copy)]
 pub struct Pen {
     // How much of the page is filled.
     pub at: usize,
-    // Whether the output still takes what is written.
-    pub open: bool,
 }
 
 pub fn fresh() -> Pen {
-    Pen { at: 0, open: true }
+    Pen { at: 0 }
 }
 
 fn put(page: &mut [u8; 4096], pen: Pen, byte: u8) -> Pen {
@@ -19,46 +19,43 @@ fn put(page: &mut [u8; 4096], pen: Pen, byte: u8) -> Pen {
         return pen;
     }
     page[at] = byte;
-    Pen {
-        at: at + 1,
-        open: pen.open,
-    }
+    Pen { at: at + 1 }
 }
 
 fn put_all(page: &mut [u8; 4096], pen: Pen, bytes: &[u8]) -> Pen {
     let mut now = pen;
-    let mut i = 0;
-    while i < bytes.len() {
-        now = put(page, now, bytes[i]);
-        i += 1;
+    for byte in bytes {
+        now = put(page, now, *byte);
     }
     now
 }
 
-// Writes the page; after a write that failed, nothing more.
-fn send(page: &[u8], pen: Pen) -> Pen {
+// Writes the page; where that fails, the run ends with the error.
+fn send<W: Write>(output: &mut W, page: &[u8], pen: Pen) -> io::Result<Pen> {
     let at = pen.at;
-    if !pen.open {
-        return pen;
-    }
     if page.len() < at {
-        return pen;
+        return Ok(pen);
     }
-    let taken = io::write_all(STDOUT_FILENO, &page[..at]);
-    Pen { at: 0, open: taken }
+    output.write_all(&page[..at])?;
+    Ok(Pen { at: 0 })
 }
 
 fn put_digits(page: &mut [u8; 4096], pen: Pen, n: u64) -> Pen {
     let mut digits = [0u8; 20];
-    let count = io::decimal(n, &mut digits);
+    let count = decimal(n, &mut digits);
     put_all(page, pen, &digits[..count])
 }
 
 // A number and the comma behind it; a page with no room for them and a line's end is written first.
-pub fn number(page: &mut [u8; 4096], pen: Pen, n: u64) -> Pen {
+pub fn number<W: Write>(
+    output: &mut W,
+    page: &mut [u8; 4096],
+    pen: Pen,
+    n: u64,
+) -> io::Result<Pen> {
     let mut now = pen;
     if 4000 < pen.at {
-        now = send(page, pen);
+        now = send(output, page, pen)?;
     }
     // Most numbers have one digit, which is quick to write.
     if n < 10 {
@@ -66,30 +63,30 @@ pub fn number(page: &mut [u8; 4096], pen: Pen, n: u64) -> Pen {
     } else {
         now = put_digits(page, now, n);
     }
-    put(page, now, b',')
+    Ok(put(page, now, b','))
 }
 
-pub fn numbers(page: &mut [u8; 4096], pen: Pen, values: &[u64]) -> Pen {
+pub fn numbers<W: Write>(
+    output: &mut W,
+    page: &mut [u8; 4096],
+    pen: Pen,
+    values: &[u64],
+) -> io::Result<Pen> {
     let mut now = pen;
-    let mut i = 0;
-    while i < values.len() {
-        now = number(page, now, values[i]);
-        i += 1;
+    for value in values {
+        now = number(output, page, now, *value)?;
     }
-    now
+    Ok(now)
 }
 
 // The line's end takes the place of the last comma.
-pub fn end_line(page: &mut [u8; 4096], pen: Pen) -> Pen {
+pub fn end_line<W: Write>(output: &mut W, page: &mut [u8; 4096], pen: Pen) -> io::Result<Pen> {
     let at = pen.at;
     if at == 0 {
-        return pen;
+        return Ok(pen);
     }
-    let last = Pen {
-        at: at - 1,
-        open: pen.open,
-    };
+    let last = Pen { at: at - 1 };
     let back = put(page, last, b'\r');
     let ended = put(page, back, b'\n');
-    send(page, ended)
+    send(output, page, ended)
 }

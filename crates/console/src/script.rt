@@ -1,8 +1,9 @@
 // The script on standard input, line by line: what has come is answered before more is waited for.
-ghost use Rattle.io.specs.Counts.{IsPrefixLen};
+ghost use Rattle.std.specs.Prelude.{◌≡◌, ◌≤◌, length, take, IfOk};
 
-use csv::{Line, line_at};
-use libc::STDIN_FILENO;
+use csv_lines::{Line, line_at};
+use std::io;
+use std::io::Read;
 
 #[derive(Clone, Copy)]
 pub struct Call {
@@ -20,13 +21,12 @@ pub struct Input {
     pub end: usize,
 }
 
-fn refilled(chunk: &mut [u8; 4096], input: Input) -> Input {
+fn refilled<R: Read>(from: &mut R, chunk: &mut [u8; 4096], input: Input) -> io::Result<Input> {
     if input.at < input.end {
-        return input;
+        return Ok(input);
     }
-    let got = libc::read(STDIN_FILENO, chunk);
-    let end = io::count(got, chunk);
-    Input { at: 0, end: end }
+    let end = from.read(chunk)?;
+    Ok(Input { at: 0, end: end })
 }
 
 #[derive(Clone, Copy)]
@@ -35,22 +35,22 @@ enum Next {
     NoByte,
 }
 
-fn next_byte(chunk: &mut [u8; 4096], input: Input) -> Next {
-    let now = refilled(chunk, input);
+fn next_byte<R: Read>(from: &mut R, chunk: &mut [u8; 4096], input: Input) -> io::Result<Next> {
+    let now = refilled(from, chunk, input)?;
     let at = now.at;
     if now.end <= at {
-        return Next::NoByte;
+        return Ok(Next::NoByte);
     }
     if 4096 <= at {
-        return Next::NoByte;
+        return Ok(Next::NoByte);
     }
-    Next::Byte(
+    Ok(Next::Byte(
         chunk[at],
         Input {
             at: at + 1,
             end: now.end,
         },
-    )
+    ))
 }
 
 #[derive(Clone, Copy)]
@@ -60,13 +60,19 @@ struct Gathered {
 }
 
 // The bytes up to an LF, the input's end, or the end of the space: no good line is as long as that.
-fn gather(chunk: &mut [u8; 4096], input: Input, line: &mut [u8]) -> Gathered
-    ensures { IsPrefixLen result.count line.new }
+fn gather<R: Read>(
+    from: &mut R,
+    chunk: &mut [u8; 4096],
+    input: Input,
+    line: &mut [u8],
+) -> io::Result<Gathered>
+    ensures within { IfOk result (λ gathered. gathered.count ≤ length line.new) }
+    ensures prefix_len { IfOk result (λ gathered. gathered.count ≡ length (take gathered.count line.new)) }
 {
     let mut now = input;
     let mut count = 0;
     while count < line.len() {
-        let next = next_byte(chunk, now);
+        let next = next_byte(from, chunk, now)?;
         let Next::Byte(byte, after) = next else {
             break;
         };
@@ -77,10 +83,10 @@ fn gather(chunk: &mut [u8; 4096], input: Input, line: &mut [u8]) -> Gathered
             break;
         }
     }
-    Gathered {
+    Ok(Gathered {
         count: count,
         input: now,
-    }
+    })
 }
 
 #[derive(Clone, Copy)]
@@ -90,19 +96,19 @@ pub enum Step {
     NoMore,
 }
 
-pub fn next_line(chunk: &mut [u8; 4096], input: Input) -> Step {
+pub fn next_line<R: Read>(from: &mut R, chunk: &mut [u8; 4096], input: Input) -> io::Result<Step> {
     let mut line = [0u8; 128];
-    let got = gather(chunk, input, &mut line);
+    let got = gather(from, chunk, input, &mut line)?;
     let count = got.count;
     if count == 0 {
-        return Step::NoMore;
+        return Ok(Step::NoMore);
     }
     let read = line_at(&line[..count], 0);
     let Line::Held(row, _) = read else {
-        return Step::BadText;
+        return Ok(Step::BadText);
     };
     let after = got.input;
-    Step::Obey(
+    Ok(Step::Obey(
         Call {
             number: row.kind,
             a: row.token,
@@ -111,5 +117,5 @@ pub fn next_line(chunk: &mut [u8; 4096], input: Input) -> Step {
             d: row.number,
         },
         after,
-    )
+    ))
 }

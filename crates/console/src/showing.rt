@@ -4,6 +4,8 @@ use crate::held::Held;
 use crate::out::{Pen, end_line, number, numbers};
 use cleanup_groups::Groups;
 use cleanup_queue::{Kind, Phase, Queue, Selection};
+use std::io;
+use std::io::Write;
 
 fn bit(yes: bool) -> u64 {
     if yes {
@@ -36,16 +38,16 @@ fn selected(selection: Selection) -> u64 {
     }
 }
 
-fn head(page: &mut [u8; 4096], pen: Pen, q: Queue) -> Pen {
+fn head<W: Write>(output: &mut W, page: &mut [u8; 4096], pen: Pen, q: Queue) -> io::Result<Pen> {
     let kind = q.kind;
     let slots = q.slots;
     let three = [kind_number(kind), q.domain, q.next];
-    let first = numbers(page, pen, &three);
-    let second = numbers(page, first, &slots);
-    number(page, second, q.count)
+    let first = numbers(output, page, pen, &three)?;
+    let second = numbers(output, page, first, &slots)?;
+    number(output, page, second, q.count)
 }
 
-fn tail(page: &mut [u8; 4096], pen: Pen, q: Queue) -> Pen {
+fn tail<W: Write>(output: &mut W, page: &mut [u8; 4096], pen: Pen, q: Queue) -> io::Result<Pen> {
     let selection = q.selection;
     let ticket = ticket_in(selection);
     let phase = q.phase;
@@ -59,47 +61,67 @@ fn tail(page: &mut [u8; 4096], pen: Pen, q: Queue) -> Pen {
         bit(q.issued),
         phase_number(phase),
     ];
-    let first = numbers(page, pen, &seven);
-    let second = numbers(page, first, &bindings);
-    number(page, second, q.bound)
+    let first = numbers(output, page, pen, &seven)?;
+    let second = numbers(output, page, first, &bindings)?;
+    number(output, page, second, q.bound)
 }
 
 // The 92 decimals of a queue, behind what the line has already.
-fn show_queue(page: &mut [u8; 4096], pen: Pen, q: Queue) -> Pen {
-    let half = head(page, pen, q);
-    let whole = tail(page, half, q);
-    end_line(page, whole)
+fn show_queue<W: Write>(
+    output: &mut W,
+    page: &mut [u8; 4096],
+    pen: Pen,
+    q: Queue,
+) -> io::Result<Pen> {
+    let half = head(output, page, pen, q)?;
+    let whole = tail(output, page, half, q)?;
+    end_line(output, page, whole)
 }
 
-fn show_log(page: &mut [u8; 4096], pen: Pen, log: &[u64], used: u64) -> Pen {
-    let lent = number(page, pen, log.len() as u64);
-    let counted = number(page, lent, used);
-    let whole = numbers(page, counted, log);
-    end_line(page, whole)
+fn show_log<W: Write>(
+    output: &mut W,
+    page: &mut [u8; 4096],
+    pen: Pen,
+    log: &[u64],
+    used: u64,
+) -> io::Result<Pen> {
+    let lent = number(output, page, pen, log.len() as u64)?;
+    let counted = number(output, page, lent, used)?;
+    let whole = numbers(output, page, counted, log)?;
+    end_line(output, page, whole)
 }
 
-pub fn show_groups(page: &mut [u8; 4096], pen: Pen, g: Groups) -> Pen {
+pub fn show_groups<W: Write>(
+    output: &mut W,
+    page: &mut [u8; 4096],
+    pen: Pen,
+    g: Groups,
+) -> io::Result<Pen> {
     let three = [g.base, g.next, bit(g.sealed)];
-    let first = numbers(page, pen, &three);
-    let mut now = end_line(page, first);
-    let mut i = 0;
-    while i < 16 {
-        let place = g.places[i];
+    let first = numbers(output, page, pen, &three)?;
+    let mut now = end_line(output, page, first)?;
+    for place in &g.places {
         let q = place.queue;
         let two = [place.id, bit(place.live)];
-        let named = numbers(page, now, &two);
-        now = show_queue(page, named, q);
-        i += 1;
+        let named = numbers(output, page, now, &two)?;
+        now = show_queue(output, page, named, q)?;
     }
-    now
+    Ok(now)
 }
 
-pub fn show_held(page: &mut [u8; 4096], pen: Pen, h: Held, number: u64, log: &[u64]) -> Pen {
+pub fn show_held<W: Write>(
+    output: &mut W,
+    page: &mut [u8; 4096],
+    pen: Pen,
+    h: Held,
+    number: u64,
+    log: &[u64],
+) -> io::Result<Pen> {
     let queue = h.queue;
     let seen = h.seen;
     match number {
-        140 => show_queue(page, pen, queue),
-        141 => show_queue(page, pen, seen),
-        _ => show_log(page, pen, log, h.used),
+        140 => show_queue(output, page, pen, queue),
+        141 => show_queue(output, page, pen, seen),
+        _ => show_log(output, page, pen, log, h.used),
     }
 }

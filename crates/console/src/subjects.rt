@@ -5,6 +5,8 @@ use crate::lives::Grouped;
 use crate::script::Call;
 use crate::{answers, asked, grouped, lives, out, places, plain, recorded, setting, showing};
 use cleanup_groups::{Got, Groups};
+use std::io;
+use std::io::Write;
 
 #[derive(Clone, Copy)]
 pub enum Subject {
@@ -90,12 +92,19 @@ pub fn on_seen(h: Held, g: Groups, id: u64) -> Turned {
     }
 }
 
-pub fn show(page: &mut [u8; 4096], h: Held, g: Groups, number: u64, log: &[u64]) -> Said {
+pub fn show<W: Write>(
+    output: &mut W,
+    page: &mut [u8; 4096],
+    h: Held,
+    g: Groups,
+    number: u64,
+    log: &[u64],
+) -> io::Result<Said> {
     if number == 143 {
-        showing::show_groups(page, out::fresh(), g);
-        return answers::good(0, 0);
+        showing::show_groups(output, page, out::fresh(), g)?;
+        return Ok(answers::good(0, 0));
     }
     let lent = first_of(h.lent, log);
-    showing::show_held(page, out::fresh(), h, number, &log[..lent]);
-    answers::good(0, 0)
+    showing::show_held(output, page, out::fresh(), h, number, &log[..lent])?;
+    Ok(answers::good(0, 0))
 }

@@ -1,13 +1,15 @@
 // The driver: a log's text on standard input, the reader's answer on standard output.
 #![tactic(auto)]
-use libc::{STDIN_FILENO, STDOUT_FILENO};
-use log_text::respond;
+
+use log_text::{read_full, respond};
+use std::io;
+use std::io::Write;
 
 // One byte more than a text may have tells a longer one.
-fn main() {
+fn main(rt: HostRuntime) -> io::Result<()> {
     let mut text = [0u8; 32769];
-    let count = io::read_full(STDIN_FILENO, &mut text);
+    let count = read_full(&mut rt.stdin(), &mut text)?;
     let mut answer = [0u8; 256];
     let length = respond(&text[..count], &mut answer);
-    io::write_all(STDOUT_FILENO, &answer[..length]);
+    rt.stdout().write_all(&answer[..length])
 }

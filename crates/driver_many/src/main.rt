@@ -1,10 +1,12 @@
 // The driver over many texts in one run, for tests: frames on standard input, an answer for each on standard output.
 // A frame is eight digits, the text's length, a line feed, and the text.
 #![tactic(auto)]
+
 ghost use Rattle.std.specs.Prelude.{◌≤◌};
 
-use libc::{STDIN_FILENO, STDOUT_FILENO};
-use log_text::respond;
+use log_text::{read_full, respond};
+use std::io;
+use std::io::{Read, Write};
 
 // The value of a digit; of any other byte, 0.
 fn digit(byte: u8) -> usize
@@ -32,47 +34,50 @@ fn frame_length(head: [u8; 9]) -> usize {
 }
 
 // What a text has beyond the limit's first byte is passed over, byte by byte.
-fn skip(count: usize) {
-    let mut left = count;
-    while left > 0 {
+fn skip<R: Read>(input: &mut R, count: usize) -> io::Result<()> {
+    for _ in 0..count {
         let mut byte = [0u8; 1];
-        if io::read_full(STDIN_FILENO, &mut byte) == 0 {
-            return;
+        if read_full(input, &mut byte)? == 0 {
+            break;
         }
-        left -= 1;
     }
+    Ok(())
 }
 
-fn answer_text(text: &[u8]) {
+fn answer_text<W: Write>(output: &mut W, text: &[u8]) -> io::Result<()> {
     let mut answer = [0u8; 256];
     let length = respond(text, &mut answer);
-    io::write_all(STDOUT_FILENO, &answer[..length]);
+    output.write_all(&answer[..length])
 }
 
 // As many bytes as the space has, or as there are.
-fn answer_next(space: &mut [u8]) {
-    let count = io::read_full(STDIN_FILENO, space);
-    answer_text(&space[..count]);
+fn answer_next<R: Read, W: Write>(
+    input: &mut R,
+    output: &mut W,
+    space: &mut [u8],
+) -> io::Result<()> {
+    let count = read_full(input, space)?;
+    answer_text(output, &space[..count])
 }
 
-fn answer_frame(length: usize) {
+fn answer_frame<R: Read, W: Write>(input: &mut R, output: &mut W, length: usize) -> io::Result<()> {
     let mut text = [0u8; 32769];
     if length < 32769 {
-        answer_next(&mut text[..length]);
-        return;
+        return answer_next(input, output, &mut text[..length]);
     }
-    answer_next(&mut text);
-    skip(length - 32769);
+    answer_next(input, output, &mut text)?;
+    skip(input, length - 32769)
 }
 
-fn main() {
-    let mut frames: u64 = 0;
-    while frames < 1000000 {
+fn main(rt: HostRuntime) -> io::Result<()> {
+    let mut input = rt.stdin();
+    let mut output = rt.stdout();
+    for _ in 0..1000000 {
         let mut head = [0u8; 9];
-        if io::read_full(STDIN_FILENO, &mut head) < 9 {
-            return;
+        if read_full(&mut input, &mut head)? < 9 {
+            break;
         }
-        answer_frame(frame_length(head));
-        frames += 1;
+        answer_frame(&mut input, &mut output, frame_length(head))?;
     }
+    Ok(())
 }

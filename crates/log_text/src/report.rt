@@ -1,7 +1,9 @@
 // R132: the answer as two lines of text, put into a lent buffer.
 ghost use Rattle.std.specs.Prelude.{◌≡◌, ◌++◌, ◌+◌, ◌*◌, ◌≤◌, length};
-ghost use Rattle.csv.specs.Form.{decimal};
+ghost use Rattle.csv_lines.specs.Form.{decimal};
 ghost use Rattle.log_text.specs.Report.{pasted, fields, report_text};
+
+use csv_lines::decimal;
 
 #[derive(Clone, Copy)]
 pub struct Figures {
@@ -35,7 +37,7 @@ fn put_number(out: &mut [u8], at: usize, n: u64, behind: &[u8]) -> usize
     ensures out_after { out.new ≡ pasted out.old at (decimal n ++ behind.now) }
 {
     let mut digits = [0u8; 20];
-    let count = io::decimal(n, &mut digits);
+    let count = decimal(n, &mut digits);
     let end = put(out, at, &digits[..count]);
     put(out, end, behind)
 }

@@ -4,7 +4,7 @@ use mathlib.Core.Path.{◌≡◌, ap, ◌∙◌}
 use mathlib.Core.List.{List}
 use lib.ListN.{length, take, length-append}
 use Rattle.io.specs.Digits.{last_digits, IsDigitCount}
-use Rattle.csv.specs.Form.{decimal}
+use Rattle.csv_lines.specs.Form.{decimal}
 use Rattle.log_text.specs.Report.{pasted}
 use Rattle.log_text.proofs.KitDigits.{kit_wrote, decimal_short}
 use Rattle.log_text.proofs.Pasting.{puts_join, pasted_length, room_behind}

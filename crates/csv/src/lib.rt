@@ -1,6 +1,0 @@
-// R125, R126: decimals, and lines of five of them, on lent bytes.
-#![tactic(auto)]
-mod line;
-mod number;
-
-pub use line::{Line, line_at};
