@@ -1,5 +1,6 @@
 // For the benchmark alone: pops by value, a call that C can't make, from 64 tokens of which one waits.
 #![tactic(auto)]
+
 ghost use Rattle.std.specs.Prelude.{◌<◌};
 
 use cleanup_queue::{MOST_TOKENS, Popped, Queue, Selection, complete, pop, register, scope};
