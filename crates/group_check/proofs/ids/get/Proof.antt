@@ -13,20 +13,20 @@ use Rattle.group_check.proofs.ids.get.Statement.{statement}
 use Rattle.group_check.proofs.ids.get.Tie as tie
 
 -- what is asked, as seen from a refusal
-abbrev asked_refused : tie.After-spot → tie.Start
-asked_refused c = c.before.before.before
+abbrev asked_refused : tie.In-Refused → tie.Start
+asked_refused c = c.before.before
 
 sixteen : (c : tie.Start) → length c.args.g.places ≡ 16
 sixteen c = simp length-map at c.well-formed.0.1.1.1.1.1.0.1.0.1
 
 -- behind the look_up: what was asked, and the spot that was found, which is one of the 16
-abbrev asked : tie.After-spot2 → tie.Start
-asked c = c.before.before.before
+abbrev asked : tie.In-At → tie.Start
+asked c = c.before.before
 
-found : (c : tie.After-spot2) → spot_of (asked c).args.g (asked c).args.id ≡ Spot.At c.spot2.given.0.0
-found c = sym c.before.before.look_up.ensures ∙ c.spot2.given.1
+found : (c : tie.In-At) → spot_of c.args.g c.args.id ≡ Spot.At c.in-At.at
+found c = sym c.look_up-spot.ensures ∙ c.in-At.is
 
-in_place : (c : tie.After-spot2) → c.spot2.given.0.0 < 16
+in_place : (c : tie.In-At) → c.in-At.at < 16
 in_place c = spot_below _ _ _ (sixteen (asked c)) (found c)
 
 abbrev answered : Got → Queue → GetAnswer
@@ -41,8 +41,8 @@ get_spec =
     (λ c. search rules)
     (λ c κs. search rules)
     (λ c. search rules)
-    (λ c κs. in_place c.before)
+    (λ c κs. in_place c)
     (λ c.
-    ap (answered _) c.blank.ensures
-    ∙ sym (ap (got_at (asked_refused c.before.before).args.g) (sym c.before.before.before.before.look_up.ensures ∙ c.before.before.spot.given.1)))
-    (λ c. ap (answered _) c.queue-at.ensures ∙ sym (ap (got_at (asked c.before.before).args.g) (found c.before.before))))
+    ap (answered _) c.blank-none.ensures
+    ∙ sym (ap (got_at c.args.g) (sym c.look_up-spot.ensures ∙ c.in-Refused.is)))
+    (λ c. ap (answered _) c.queue_at-queue.ensures ∙ sym (ap (got_at c.args.g) (found c.before))))

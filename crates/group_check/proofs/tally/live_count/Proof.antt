@@ -9,21 +9,21 @@ use borrow.Author.Rules.{rules}
 use Rattle.group_check.proofs.tally.live_count.Statement.{statement}
 use Rattle.group_check.proofs.tally.live_count.Tie as tie
 
-abbrev invariant-loop : tie.invariant-loop
-invariant-loop g count₀ i₀ count i = Counts g.places count i
+abbrev invariant-loop-i : tie.invariant-loop-i
+invariant-loop-i g count₀ i₀ count i = Counts g.places count i
 
-abbrev decreases-loop : tie.decreases-loop
-decreases-loop g count₀ i₀ count i = 16 - i
+abbrev decreases-loop-i : tie.decreases-loop-i
+decreases-loop-i g count₀ i₀ count i = 16 - i
 
-sixteen : (c : tie.Start invariant-loop decreases-loop) → length c.args.t1.places ≡ 16
+sixteen : (c : tie.Start invariant-loop-i decreases-loop-i) → length c.args.t1.places ≡ 16
 sixteen c = simp length-map at c.well-formed.0.1.1.1.1.1.0.1.0.1
 
 pub live_count_spec : {M : Type 1} → statement M
 live_count_spec =
     tie.close
     (tie.spec
-    invariant-loop
-    decreases-loop
+    invariant-loop-i
+    decreases-loop-i
     (λ c. counts_none c.args.t1.places)
     (λ c. omega arith)
     (λ c. search rules)
@@ -32,8 +32,8 @@ live_count_spec =
     (λ c. omega arith)
     (λ c.
     ⊎_elim (λ w. rw w.1 (counts_live _ _ _ (sixteen c.before.before.before.before)
-    c.before.before.loop-test.true w.0.taken c.before.before.before.loop.invariant))
+    c.loop-i-test.true w.0.taken c.loop-i.invariant))
     (λ w. rw w.1 (counts_free _ _ _ (sixteen c.before.before.before.before)
-    c.before.before.loop-test.true w.0.left c.before.before.before.loop.invariant))
-    c.if1.branch)
-    (λ c. counts_all _ _ _ (sixteen c.before.before) c.loop-test.false c.before.loop.invariant))
+    c.loop-i-test.true w.0.left c.loop-i.invariant))
+    c.if-place.branch)
+    (λ c. counts_all _ _ _ (sixteen c.before.before) c.loop-i-test.false c.loop-i.invariant))
