@@ -22,7 +22,7 @@ abbrev asked_refused : tie.After-spot → tie.Start
 asked_refused c = c.before.before.before
 
 sixteen : (c : tie.Start) → length c.args.g.places ≡ 16
-sixteen c = simp length-map at c.well-formed.0.1.1.1.1.1.0.1.0.1
+sixteen c = search rules
 
 -- behind the look_up: what was asked, and the spot that was found, which is one of the 16
 abbrev asked : tie.After-spot2 → tie.Start

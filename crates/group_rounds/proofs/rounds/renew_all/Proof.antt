@@ -18,7 +18,7 @@ abbrev decreases-loop : tie.decreases-loop
 decreases-loop g after₀ i₀ after i = 16 - i
 
 sixteen : (c : tie.Start invariant-loop decreases-loop) → length c.args.t1.places ≡ 16
-sixteen c = simp length-map at c.well-formed.0.1.1.1.1.1.0.1.0.1
+sixteen c = search rules
 
 pub renew_all_spec : {M : Type 1} → statement M
 renew_all_spec =

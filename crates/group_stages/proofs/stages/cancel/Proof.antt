@@ -1,7 +1,7 @@
 -- Refused, or the queue steps and is put back
 use Prim.Native.Nat.{◌<◌}
 use mathlib.Core.Path.{◌≡◌, sym, ap, ◌∙◌}
-use lib.ListN.{length, length-map}
+use lib.ListN.{length}
 use Rattle.queue_record.specs.declared.record.Queue.{Queue}
 use Rattle.queue_stages.specs.Stages.{cancelled_by}
 use Rattle.queue_stages.specs.declared.stages.Cancelled.{Cancelled}
@@ -16,7 +16,7 @@ use Rattle.group_stages.proofs.stages.cancel.Statement.{statement}
 use Rattle.group_stages.proofs.stages.cancel.Tie as tie
 
 sixteen : (c : tie.Start) → length c.args.g.places ≡ 16
-sixteen c = simp length-map at c.well-formed.0.1.1.1.1.1.0.1.0.1
+sixteen c = search rules
 
 -- behind the look_up: what was asked, and the spot that was found, which is one of the 16
 abbrev asked : tie.In-At → tie.Start
