@@ -1,6 +1,6 @@
 -- Refused, or put in
 use mathlib.Core.Path.{◌≡◌, sym, ap, ◌∙◌}
-use lib.ListN.{length, length-map}
+use lib.ListN.{length}
 use Rattle.group_openings.specs.Openings.{room_of, added_at}
 use Rattle.group_openings.specs.declared.openings.Added.{Added}
 use Rattle.group_openings.specs.declared.openings.AddAnswer.{AddAnswer}
@@ -16,7 +16,7 @@ abbrev asked_refused : tie.In-Refused → tie.Start
 asked_refused c = c.before.before
 
 sixteen : (c : tie.Start) → length c.args.g.places ≡ 16
-sixteen c = simp length-map at c.well-formed.0.1.1.1.1.1.0.1.0.1
+sixteen c = search rules
 
 -- behind the search for room: what is asked, and the place that is free
 abbrev asked : tie.In-At → tie.Start

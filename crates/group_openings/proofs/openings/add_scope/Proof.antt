@@ -47,4 +47,4 @@ add_scope_spec =
     (λ c.
     let at = to_gate c.before in
     c.add_opened.ensures ∙ (ap (λ (x : OpenAnswer). added_queue (asked at) x.queue x.answer) c.scope-opening.ensures
-    ∙ sym (ap (added_opening (asked at) _) (unrefused at)))))
+    ∙ sym (ap (added_opening (asked at) (scope_opened (next_domain (asked at)) 0)) (unrefused at)))))
