@@ -18,7 +18,7 @@ use Rattle.queue_record.specs.declared.record.Queue.{Queue}
 use Rattle.queue_record.specs.declared.openings.Opened.{Opened}
 use Rattle.queue_record.specs.declared.openings.Opened.TheVariants.{Open}
 use Rattle.queue_record.specs.declared.openings.OpenAnswer.{OpenAnswer}
-use Rattle.queue_record.proofs.Opened.{scope_well_formed, scope_sized, iterator_well_formed, iterator_sized}
+use Rattle.queue_record.proofs.OpenedLaws.{scope_well_formed, scope_sized, iterator_well_formed, iterator_sized}
 use Rattle.queue_questions.specs.Questions.{matches}
 use Rattle.cleanup_queue.specs.Runs as queue
 use Rattle.group_record.specs.Record.{queue_at, free_place, with_place, with_queue, with_opened, sealing}

@@ -14,7 +14,7 @@ use Rattle.queue_record.specs.Openings.{scope_of, blank}
 use Rattle.queue_record.specs.Blank.{is_blank}
 use Rattle.queue_record.specs.declared.record.Queue.{Queue}
 use Rattle.queue_record.specs.declared.search.Found.TheVariants.{At}
-use Rattle.queue_record.proofs.Opened.{scope_well_formed, scope_sized}
+use Rattle.queue_record.proofs.OpenedLaws.{scope_well_formed, scope_sized}
 use Rattle.queue_steps.specs.Attempts.{retried}
 use Rattle.cleanup_queue.specs.Runs as queue
 use Rattle.cleanup_queue.proofs.Keeps as queues

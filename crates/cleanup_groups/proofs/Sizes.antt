@@ -8,7 +8,7 @@ use lib.ListN.{length, get_or, replicate}
 use Rattle.choice.proofs.Ways.{if_by}
 use Rattle.queue_record.specs.Record.{Sized}
 use Rattle.queue_record.specs.Openings.{scope_of}
-use Rattle.queue_record.proofs.Opened.{scope_sized, blank_sized}
+use Rattle.queue_record.proofs.OpenedLaws.{scope_sized, blank_sized}
 use Rattle.cleanup_queue.specs.Runs as queue
 use Rattle.cleanup_queue.proofs.Sizes as sizes
 use Rattle.group_record.specs.Record.{nowhere, place_at, queue_at, free_place, live_place, holding, with_place, empty_of, sealing}

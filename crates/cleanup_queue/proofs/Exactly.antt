@@ -19,7 +19,7 @@ use Rattle.queue_record.specs.declared.record.Selection.TheVariants.{Free, Of}
 use Rattle.queue_record.specs.declared.record.Queue.{Queue}
 use Rattle.queue_record.specs.declared.openings.Opened.{Opened}
 use Rattle.queue_record.proofs.Fit.{fit}
-use Rattle.queue_record.proofs.Opened.{iterator_open, opened_well_formed}
+use Rattle.queue_record.proofs.OpenedLaws.{iterator_open, opened_well_formed}
 use Rattle.queue_decisions.specs.Slots.{no_more}
 use Rattle.queue_steps.specs.Attempts.{slot, fresh_ticket, renewed, popped}
 use Rattle.queue_births.specs.declared.births.RegisterAnswer.{RegisterAnswer}

@@ -14,7 +14,7 @@ use Rattle.queue_record.specs.WellFormed.{well_formed}
 use Rattle.queue_record.specs.Waiting.{waiting}
 use Rattle.queue_record.specs.Newest.{newest, is_there}
 use Rattle.queue_record.specs.Openings.{Opening, heading_of, opening_of, blank, scope_opened, iterator_opened, opened_by, opened_as}
-use Rattle.queue_record.proofs.Opened.{opened_refused}
+use Rattle.queue_record.proofs.OpenedLaws.{opened_refused}
 use Rattle.queue_record.proofs.Fit.{free_no_marks}
 use Rattle.queue_record.specs.declared.record.Kind.{Kind}
 use Rattle.queue_record.specs.declared.record.Kind.TheVariants.{Scope, Iterator}

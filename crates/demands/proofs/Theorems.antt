@@ -10,7 +10,7 @@ use Rattle.queue_record.specs.Refusals.{done}
 use Rattle.queue_record.specs.Blank.{is_blank}
 use Rattle.queue_record.specs.Openings.{blank, scope_of, opened_as}
 use Rattle.queue_record.specs.declared.record.Queue.{Queue}
-use Rattle.queue_record.proofs.Opened.{opened_well_formed}
+use Rattle.queue_record.proofs.OpenedLaws.{opened_well_formed}
 use Rattle.queue_record.proofs.BlankOnly.{blank_passes, blank_only}
 use Rattle.stage.proofs.Sets.{same_means, means_same}
 use Rattle.queue_questions.specs.Questions.{committed, matches}

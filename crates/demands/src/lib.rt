@@ -1,1 +1,2 @@
 // The three demands on one page, and that they hold: definitions and theorems, and no code.
+#![tactic(auto)]

@@ -1,4 +1,5 @@
 // What is asked of the places, one by one and in a walk.
+#![tactic(auto)]
 mod questions;
 mod scan;
 

@@ -1,4 +1,5 @@
 // Whether a group record is well formed, a group by its id, and how many are live.
+#![tactic(auto)]
 mod check;
 mod ids;
 mod tally;

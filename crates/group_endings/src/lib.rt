@@ -1,4 +1,5 @@
 // Closing a group and sealing the record.
+#![tactic(auto)]
 mod endings;
 
 pub use endings::{CloseAnswer, Closed, remove, seal};

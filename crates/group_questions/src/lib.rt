@@ -1,4 +1,5 @@
 // The calls that ask of one group, by its id.
+#![tactic(auto)]
 mod by_id;
 
 pub use by_id::{

@@ -1,4 +1,5 @@
 // The group record: its parts and its setters.
+#![tactic(auto)]
 mod record;
 mod setters;
 

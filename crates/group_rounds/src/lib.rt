@@ -1,4 +1,5 @@
 // The retry of every failed group.
+#![tactic(auto)]
 mod rounds;
 
 pub use rounds::{RetryAllAnswer, retry_all};

@@ -1,4 +1,5 @@
 // The calls that ask of all live groups at once.
+#![tactic(auto)]
 mod whole;
 
 pub use whole::{

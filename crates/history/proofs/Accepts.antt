@@ -9,7 +9,7 @@ use lib.Seq.{length-take-le}
 use Rattle.queue_record.specs.Refusals.{done, bad_log}
 use Rattle.queue_record.specs.Openings.{Opening, opened_as}
 use Rattle.queue_record.specs.declared.openings.Opened.{Opened}
-use Rattle.queue_record.proofs.Opened.{opened_refused}
+use Rattle.queue_record.proofs.OpenedLaws.{opened_refused}
 use Rattle.log_rows.specs.Rows.{rows}
 use Rattle.log_rows.proofs.RowList.{rows_length, same_words_lem}
 use Rattle.log_language.specs.FirstBad.{WordsBelong}

@@ -21,7 +21,7 @@ use Rattle.log_language.specs.Readings.{every}
 use Rattle.log_language.specs.Language.{Belongs}
 use Rattle.log_language.proofs.Core.{one_more_may}
 use Rattle.log_language.proofs.Lists.{snoc_ind, every_snoc}
-use Rattle.queue_record.proofs.Opened.{iterator_open}
+use Rattle.queue_record.proofs.OpenedLaws.{iterator_open}
 use Rattle.history.specs.Histories.{Bench, bench, called, number_of, Start, History, opens, calls, Made, no_call, one_call, opened_queue, setting}
 use Rattle.history.specs.Fits.{is_word, fits, row_fits, LeftByFitting}
 use Rattle.history.proofs.Steps.{step}

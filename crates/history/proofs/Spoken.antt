@@ -11,7 +11,7 @@ use Rattle.queue_record.specs.Record.{Sized}
 use Rattle.queue_record.specs.WellFormed.{well_formed}
 use Rattle.queue_record.specs.declared.record.Queue.{Queue}
 use Rattle.queue_record.specs.declared.openings.Opened.{Opened}
-use Rattle.queue_record.proofs.Opened.{opened_well_formed, opened_sized}
+use Rattle.queue_record.proofs.OpenedLaws.{opened_well_formed, opened_sized}
 use Rattle.cleanup_queue.specs.Runs.{Call, after}
 use Rattle.log_rows.specs.Rows.{rows, flat, written}
 use Rattle.log_rows.specs.declared.Row.{Row}

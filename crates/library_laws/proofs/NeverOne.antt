@@ -15,7 +15,7 @@ use Rattle.queue_record.specs.WellFormed.{well_formed}
 use Rattle.queue_record.specs.Openings.{Opening, heading_of, opening_of, opened_as}
 use Rattle.queue_record.specs.declared.record.Kind.TheVariants.{Scope, Iterator}
 use Rattle.queue_record.specs.declared.openings.Opened.{Opened}
-use Rattle.queue_record.proofs.Opened.{opened_refused}
+use Rattle.queue_record.proofs.OpenedLaws.{opened_refused}
 use Rattle.queue_births.specs.Births.{registered, landed}
 use Rattle.queue_steps.specs.Attempts.{popped, completed, retried}
 use Rattle.queue_stages.specs.Stages.{admitted, ended, cancelled_by}

@@ -9,7 +9,7 @@ use lib.Dec.{ltb}
 use Rattle.choice.proofs.Ways.{miss}
 use Rattle.queue_record.specs.Refusals.{broken}
 use Rattle.queue_record.specs.Openings.{Opening, blank, heading_of, opening_of, opened_as}
-use Rattle.queue_record.proofs.Opened.{opened_refused}
+use Rattle.queue_record.proofs.OpenedLaws.{opened_refused}
 use Rattle.log_reader.specs.Walk.{read_from}
 use Rattle.log_reader.specs.Reader.{ReadsAs, refused_opening, bad_at, good_log}
 use Rattle.log_reader.specs.declared.reading.Reading.{Reading}

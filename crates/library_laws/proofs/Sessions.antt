@@ -13,7 +13,7 @@ use Rattle.queue_record.specs.Refusals.{done}
 use Rattle.queue_record.specs.WellFormed.{well_formed}
 use Rattle.queue_record.specs.Openings.{Opening, opened_as}
 use Rattle.queue_record.specs.declared.record.Queue.{Queue}
-use Rattle.queue_record.proofs.Opened.{opened_well_formed, opened_sized, opened_refused}
+use Rattle.queue_record.proofs.OpenedLaws.{opened_well_formed, opened_sized, opened_refused}
 use Rattle.queue_questions.specs.Questions.{matches}
 use Rattle.cleanup_queue.specs.Answers.{Said, registered_says, popped_says, completed_says, retried_says, told_says, cancelled_says}
 use Rattle.cleanup_queue.specs.Runs.{Call}

@@ -4,7 +4,7 @@ use mathlib.Core.Path.{◌≡◌, refl, ap, ◌∙◌}
 use mathlib.Core.Bool.{true, false}
 use mathlib.Core.List.{List, [], ◌∷◌}
 use Rattle.queue_record.specs.Openings.{scope_of, iterator_opened}
-use Rattle.queue_record.proofs.Opened.{scope_well_formed, scope_sized, opening_well_formed, opening_sized}
+use Rattle.queue_record.proofs.OpenedLaws.{scope_well_formed, scope_sized, opening_well_formed, opening_sized}
 use Rattle.queue_births.specs.Births.{registered, landed}
 use Rattle.queue_steps.specs.Attempts.{popped, completed, retried}
 use Rattle.queue_births.specs.declared.births.Registered.{Registered}

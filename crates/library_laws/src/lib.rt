@@ -1,1 +1,2 @@
 // No code: laws over the calls of the library for C.
+#![tactic(auto)]

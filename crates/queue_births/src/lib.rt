@@ -1,4 +1,5 @@
 // Register, land, and register of a whole list: the calls that append undo numbers.
+#![tactic(auto)]
 mod births;
 mod sequences;
 

@@ -1,4 +1,5 @@
 // Questions to one queue, public and for the crates above.
+#![tactic(auto)]
 mod questions;
 
 pub use questions::{

@@ -2,7 +2,7 @@ pub mod Zeros
 pub mod Padding
 pub mod Marks
 pub mod Fit
-pub mod Opened
+pub mod OpenedLaws
 pub mod BlankOnly
 pub mod Waiting
 pub mod Last

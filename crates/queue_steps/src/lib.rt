@@ -1,4 +1,5 @@
 // The steps of an attempt: pop, complete, retry.
+#![tactic(auto)]
 mod attempts;
 
 pub use attempts::{

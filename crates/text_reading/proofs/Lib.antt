@@ -1,6 +1,6 @@
 pub mod Openings
 pub mod Progress
-pub mod RowsRead
+pub mod RowsReadLaws
 pub mod RowsStand
 pub mod Said
 pub mod Texts

@@ -1,4 +1,5 @@
 // A log's text read: the opening, then the rows.
+#![tactic(auto)]
 mod opening;
 mod textread;
 mod textrows;

@@ -14,5 +14,5 @@ length_of_spec =
     (tie.spec
     (λ c. search rules)
     (λ c. search rules)
-    (λ c. at_each len result_names c.before.args.number 0 "unknown" c.if1.true)
-    (λ c. sym (ap len (past_all result_names c.before.args.number "unknown" c.if1.false))))
+    (λ c. at_each len result_names c.args.number 0 "unknown" c.if-number-lt22.true)
+    (λ c. sym (ap len (past_all result_names c.args.number "unknown" c.if-number-lt22.false))))

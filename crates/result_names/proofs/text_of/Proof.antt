@@ -14,5 +14,5 @@ text_of_spec =
     (tie.spec
     (λ c. search rules)
     (λ c. search rules)
-    (λ c. at_each in_places result_names c.before.before.args.number [] "unknown" c.before.if1.true)
-    (λ c. sym (ap in_places (past_all result_names c.before.before.before.args.number "unknown" c.before.before.if1.false))))
+    (λ c. at_each in_places result_names c.args.number [] "unknown" c.if-number-lt22.true)
+    (λ c. sym (ap in_places (past_all result_names c.args.number "unknown" c.if-number-lt22.false))))

@@ -10,6 +10,6 @@ ask_spec =
     tie.close
     (tie.spec
     (λ c κs. search rules)
-    (λ c. c.ask-live.ensures ∙ sym (hit _ c.before.if1.true))
+    (λ c. c.ask_live.ensures ∙ sym (hit _ c.if-place.true))
     (λ c κs. search rules)
-    (λ c. c.ask-free.ensures ∙ sym (miss _ c.before.if1.false)))
+    (λ c. c.ask_free.ensures ∙ sym (miss _ c.if-place.false)))

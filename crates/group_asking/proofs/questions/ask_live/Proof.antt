@@ -11,8 +11,8 @@ use Rattle.group_asking.proofs.questions.ask_live.Tie as tie
 abbrev asks : tie.Start → Question → Bool
 asks s k = asks_live k s.args.id s.args.q s.args.target.now
 
-abbrev start : tie.After-question3 → tie.Start
-start c = c.before.before.before
+abbrev start : tie.In-Foreign → tie.Start
+start c = c.before.before
 
 pub ask_live_spec : {M : Type 1} → statement M
 ask_live_spec =
@@ -35,15 +35,15 @@ ask_live_spec =
     (λ c κs. search rules)
     (λ c. search rules)
     (λ c κs. search rules)
-    (λ c. sym (ap (asks c.before.before.before) c.enum_told.given.1))
-    (λ c. sym (ap (asks c.before.before.before) c.enum-told2.given.1))
-    (λ c. sym (ap (asks c.before.before.before) c.enum-told3.given.1))
-    (λ c. sym (ap (asks c.before.before.before.before) c.before.question.given.1))
-    (λ c. sym (ap (asks c.before.before.before.before) c.before.question2.given.1))
-    (λ c. ap not c.belongs-to.ensures ∙ sym (ap (asks (start c.before.before)) c.before.before.question3.given.1))
-    (λ c. c.pending.ensures ∙ sym (ap (asks c.before.before.before.before) c.before.enum-told4.given.1))
-    (λ c. sym (ap (asks c.before.before.before) c.enum-told5.given.1))
-    (λ c. sym (ap (asks c.before.before.before) c.enum-told6.given.1))
-    (λ c. c.is_stuck.ensures ∙ sym (ap (asks c.before.before.before.before) c.before.enum-told7.given.1))
-    (λ c. ap not c.is-finishing.ensures ∙ sym (ap (asks c.before.before.before.before) c.before.enum-told8.given.1))
-    (λ c. ap not c.is-drained.ensures ∙ sym (ap (asks c.before.before.before.before) c.before.enum-told9.given.1)))
+    (λ c. sym (ap (asks c.before.before) c.in-Free.is))
+    (λ c. sym (ap (asks c.before.before) c.in-Littered.is))
+    (λ c. sym (ap (asks c.before.before) c.in-Live.is))
+    (λ c. sym (ap (asks c.before.before) c.in-Holds.is))
+    (λ c. sym (ap (asks c.before.before) c.in-PastNext.is))
+    (λ c. ap not c.belongs_to.ensures ∙ sym (ap (asks (start c.before)) c.in-Foreign.is))
+    (λ c. c.pending.ensures ∙ sym (ap (asks c.before.before.before) c.in-Pending.is))
+    (λ c. sym (ap (asks c.before.before) c.in-Issued.is))
+    (λ c. sym (ap (asks c.before.before) c.in-Failed.is))
+    (λ c. c.is_stuck.ensures ∙ sym (ap (asks c.before.before.before) c.in-Stuck.is))
+    (λ c. ap not c.is_finishing.ensures ∙ sym (ap (asks c.before.before.before) c.in-Unfinished.is))
+    (λ c. ap not c.is_drained.ensures ∙ sym (ap (asks c.before.before.before) c.in-Undrained.is)))

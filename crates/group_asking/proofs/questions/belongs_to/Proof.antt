@@ -10,7 +10,7 @@ pub belongs_to_spec : {M : Type 1} → statement M
 belongs_to_spec =
     tie.close
     (tie.spec
-    (λ c. sym (stop _ (sum_short _ _ _ c.if1.true)))
-    (λ c. sym (stop _ (sum_other _ _ _ c.before.if1.false c.if2.true)))
+    (λ c. sym (stop _ (sum_short _ _ _ c.if-domain-base.true)))
+    (λ c. sym (stop _ (sum_other _ _ _ c.if-domain-base.false c.if-domain-base-2.true)))
     (λ c κs. search rules)
-    (λ c. c.well-formed-2.ensures ∙ sym (pass _ (sum_is _ _ _ c.before.before.if1.false c.before.if2.false))))
+    (λ c. c.well_formed-2.ensures ∙ sym (pass _ (sum_is _ _ _ c.if-domain-base.false c.if-domain-base-2.false))))

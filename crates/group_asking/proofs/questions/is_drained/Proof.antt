@@ -11,11 +11,11 @@ use Rattle.group_asking.proofs.questions.is_drained.Statement.{statement}
 use Rattle.group_asking.proofs.questions.is_drained.Tie as tie
 
 -- behind the first test: the record that is asked, which is empty
-abbrev asked : tie.Else1 → Queue
-asked c = c.before.before.before.args.q
+abbrev asked : tie.Else-not-is_yes → Queue
+asked c = c.args.q
 
-emptied : (c : tie.Else1) → is_yes (is_empty_told (asked c)) ≡ true
-emptied c = sym (c.before.is-yes.ensures ∙ ap is_yes c.before.before.is-empty.ensures) ∙ not-false _ c.if1.false
+emptied : (c : tie.Else-not-is_yes) → is_yes (is_empty_told (asked c)) ≡ true
+emptied c = sym (c.is_yes.ensures ∙ ap is_yes c.is_empty.ensures) ∙ not-false _ c.if-not-is_yes.false-raw
 
 pub is_drained_spec : {M : Type 1} → statement M
 unfolding drained
@@ -24,8 +24,8 @@ is_drained_spec =
     (tie.spec
     (λ c κs. search rules)
     (λ c κs. search rules)
-    (λ c. sym (stop _ (sym (c.before.is-yes.ensures ∙ ap is_yes c.before.before.is-empty.ensures) ∙ not-true _ c.if1.true)))
+    (λ c. sym (stop _ (sym (c.is_yes.ensures ∙ ap is_yes c.is_empty.ensures) ∙ not-true _ c.if-not-is_yes.true-raw)))
     (λ c κs. search rules)
-    (λ c. sym (pass _ (emptied c.before.before) ∙ stop _ (sym c.before.settled.ensures ∙ not-true _ c.if2.true)))
+    (λ c. sym (pass _ (emptied c.before.before) ∙ stop _ (sym c.settled.ensures ∙ not-true _ c.if-not-settled.true-raw)))
     (λ c κs. search rules)
-    (λ c. ap not c.pending.ensures ∙ sym (pass _ (emptied c.before.before.before) ∙ pass _ (sym c.before.before.settled.ensures ∙ not-false _ c.before.if2.false))))
+    (λ c. ap not c.pending.ensures ∙ sym (pass _ (emptied c.before.before.before) ∙ pass _ (sym c.settled.ensures ∙ not-false _ c.if-not-settled.false-raw))))

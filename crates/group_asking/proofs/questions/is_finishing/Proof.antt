@@ -9,7 +9,7 @@ use Rattle.group_asking.proofs.questions.is_finishing.Statement.{statement}
 use Rattle.group_asking.proofs.questions.is_finishing.Tie as tie
 
 -- the places behind the tests, each as seen from the next
-abbrev to1 : tie.Else3 → tie.Else1
+abbrev to1 : tie.Else-id-eq0 → tie.Else-pending
 to1 c = c.before.before
 
 pub is_finishing_spec : {M : Type 1} → statement M
@@ -17,13 +17,13 @@ is_finishing_spec =
     tie.close
     (tie.spec
     (λ c κs. search rules)
-    (λ c. sym (stop _ (ap not (sym c.before.pending.ensures ∙ c.if1.true))))
-    (λ c. sym (pass _ (ap not (sym c.before.before.pending.ensures ∙ c.before.if1.false)) ∙ stop _ (ap not c.if2.true)))
-    (λ c. sym (pass _ (ap not (sym c.before.before.before.pending.ensures ∙ c.before.before.if1.false)) ∙ (pass _ (ap not c.before.if2.false) ∙ either _ (eq-eqb _ _ c.if3.true))))
+    (λ c. sym (stop _ (ap not (sym c.pending.ensures ∙ c.if-pending.true))))
+    (λ c. sym (pass _ (ap not (sym c.pending.ensures ∙ c.if-pending.false)) ∙ stop _ (ap not c.if-q.true)))
+    (λ c. sym (pass _ (ap not (sym c.pending.ensures ∙ c.if-pending.false)) ∙ (pass _ (ap not c.if-q.false) ∙ either _ (eq-eqb _ _ c.if-id-eq0.true))))
     (λ c κs. search rules)
     (λ c κs. search rules)
     (λ c.
-    c.is-yes.ensures
-    ∙ (ap is_yes c.before.can-finish.ensures
-    ∙ sym (pass _ (ap not (sym (to1 c.before.before).before.pending.ensures ∙ (to1 c.before.before).if1.false))
-    ∙ (pass _ (ap not c.before.before.before.if2.false) ∙ other _ (ne_eqb _ _ c.before.before.if3.false))))))
+    c.is_yes.ensures
+    ∙ (ap is_yes c.can_finish.ensures
+    ∙ sym (pass _ (ap not (sym c.pending.ensures ∙ c.if-pending.false))
+    ∙ (pass _ (ap not c.if-q.false) ∙ other _ (ne_eqb _ _ c.if-id-eq0.false))))))

@@ -11,6 +11,6 @@ pub is_littered_spec : {M : Type 1} → statement M
 is_littered_spec =
     tie.close
     (tie.spec
-    (λ c. sym (ap not (stop _ (ne_eqb _ _ c.if1.true))))
+    (λ c. sym (ap not (stop _ (ne_eqb _ _ c.if-id-ne0.true))))
     (λ c κs. search rules)
-    (λ c. ap not (c.is-blank.ensures ∙ sym (pass _ (eq-eqb _ _ c.before.if1.false)))))
+    (λ c. ap not (c.is_blank.ensures ∙ sym (pass _ (eq-eqb _ _ c.if-id-ne0.false)))))

@@ -12,7 +12,7 @@ pub is_stuck_spec : {M : Type 1} → statement M
 is_stuck_spec =
     tie.close
     (tie.spec
-    (λ c. sym (stop _ (not-true c.before.before.args.q.failed c.if1.true)))
+    (λ c. sym (stop _ (not-true c.args.q.failed c.if-not-q.true)))
     (λ c κs. search rules)
     (λ c κs. search rules)
-    (λ c. ap not (c.is-yes.ensures ∙ ap is_yes c.before.can-retry.ensures) ∙ sym (pass _ (not-false c.before.before.before.before.args.q.failed c.before.before.if1.false))))
+    (λ c. ap not (c.is_yes.ensures ∙ ap is_yes c.can_retry.ensures) ∙ sym (pass _ (not-false c.args.q.failed c.if-not-q.false))))

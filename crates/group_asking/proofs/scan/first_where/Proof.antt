@@ -10,35 +10,35 @@ use borrow.Author.Rules.{rules}
 use Rattle.group_asking.proofs.scan.first_where.Statement.{statement}
 use Rattle.group_asking.proofs.scan.first_where.Tie as tie
 
-abbrev invariant-loop : tie.invariant-loop
-invariant-loop from question target g i₀ i = first_from (asks_of question target) i (drop i g.places) ≡ first_from (asks_of question target) from (drop from g.places)
+abbrev invariant-loop-i : tie.invariant-loop-i
+invariant-loop-i from question target g i₀ i = first_from (asks_of question target) i (drop i g.places) ≡ first_from (asks_of question target) from (drop from g.places)
 
-abbrev decreases-loop : tie.decreases-loop
-decreases-loop from question target g i₀ i = 16 - i
+abbrev decreases-loop-i : tie.decreases-loop-i
+decreases-loop-i from question target g i₀ i = 16 - i
 
 -- what is asked, as seen from behind the call or the loop
-abbrev asked : tie.After-place invariant-loop decreases-loop → tie.Start invariant-loop decreases-loop
+abbrev asked : tie.After-place-1 invariant-loop-i decreases-loop-i → tie.Start invariant-loop-i decreases-loop-i
 asked c = c.before.before.before.before
 
-sixteen : (c : tie.Start invariant-loop decreases-loop) → length c.args.t1.places ≡ 16
+sixteen : (c : tie.Start invariant-loop-i decreases-loop-i) → length c.args.t1.places ≡ 16
 sixteen c = simp length-map at c.well-formed.0.1.1.1.1.1.0.1.0.1
 
 pub first_where_spec : {M : Type 1} → statement M
 first_where_spec =
     tie.close
     (tie.spec
-    invariant-loop
-    decreases-loop
+    invariant-loop-i
+    decreases-loop-i
     (λ c. refl)
     (λ c. omega arith)
     (λ c. search rules)
     (λ c κs. search rules)
     (λ c.
-    first_here _ _ _ (sixteen (asked c.before.before)) c.before.before.before.loop-test.true (sym c.before.ask.ensures ∙ c.if1.true)
-    ∙ c.before.before.before.before.loop.invariant)
+    first_here _ _ _ (sixteen (asked c.before.before)) c.loop-i-test.true (sym c.ask.ensures ∙ c.if-ask.true)
+    ∙ c.loop-i.invariant)
     (λ c. omega arith)
     (λ c. omega arith)
     (λ c.
-    first_past _ _ _ (sixteen (asked c.before.before)) c.before.before.before.loop-test.true (sym c.before.ask.ensures ∙ c.if1.false)
-    ∙ c.before.before.before.before.loop.invariant)
-    (λ c. first_end _ _ _ (sixteen c.before.before.before) c.loop-test.false ∙ c.before.loop.invariant))
+    first_past _ _ _ (sixteen (asked c.before.before)) c.loop-i-test.true (sym c.ask.ensures ∙ c.if-ask.false)
+    ∙ c.loop-i.invariant)
+    (λ c. first_end _ _ _ (sixteen c.before.before.before) c.loop-i-test.false ∙ c.loop-i.invariant))

@@ -12,5 +12,5 @@ some_from_spec =
     (λ c κs. search rules)
     (λ c. search rules)
     (λ c. search rules)
-    (λ c. sym (ap is_there (sym c.before.before.first-where.ensures ∙ c.enum-told2.given.1)))
-    (λ c. sym (ap is_there (sym c.before.before.first-where.ensures ∙ c.enum_told.given.1))))
+    (λ c. sym (ap is_there (sym c.first_where-found.ensures ∙ c.in_default.is)))
+    (λ c. sym (ap is_there (sym c.first_where-found.ensures ∙ c.in-At.is))))

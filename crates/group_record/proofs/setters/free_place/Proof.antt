@@ -15,4 +15,4 @@ free_place_spec =
     tie.close
     (tie.spec
     (λ c κs. search rules)
-    (λ c. ap (λ (q : Queue). as_free q) c.blank.ensures))
+    (λ c. ap (λ (q : Queue). as_free q) c.blank-none.ensures))

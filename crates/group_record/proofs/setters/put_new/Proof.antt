@@ -10,4 +10,4 @@ put_new_spec =
     (λ c κs. search rules)
     (λ c κs. search rules)
     (λ c. search rules)
-    (λ c. rw (c.put-place.ensures, c.before.live-place.ensures)))
+    (λ c. rw (c.put_place-after.ensures, c.live_place-place.ensures)))

@@ -10,4 +10,4 @@ sealed_of_spec =
     tie.close
     (tie.spec
     (λ c κs. search rules)
-    (λ c. rw c.free-place.ensures))
+    (λ c. rw c.free_place-place.ensures))

@@ -12,31 +12,31 @@ use Rattle.queue_births.proofs.births.land.Statement.{statement}
 use Rattle.queue_births.proofs.births.land.Tie as tie
 
 -- behind the decision: the record that is asked, the undo number, and the call by the decided number
-abbrev start : tie.After-land-refusal → tie.Start
+abbrev start : tie.After-land_refusal-refusal → tie.Start
 start c = c.before.before.before
 
-abbrev asked : tie.After-land-refusal → Queue
-asked c = (start c).args.q
+abbrev asked : tie.After-land_refusal-refusal → Queue
+asked c = c.args.q
 
-abbrev number : tie.After-land-refusal → ℕ
-number c = (start c).args.number
+abbrev number : tie.After-land_refusal-refusal → ℕ
+number c = c.args.number
 
-decided : (c : tie.After-land-refusal)
-    → landed (asked c) (number c) ≡ born_by (asked c) (number c) (landed_to (asked c) (number c)) c.land-refusal.result
+decided : (c : tie.After-land_refusal-refusal)
+    → landed (asked c) (number c) ≡ born_by (asked c) (number c) (landed_to (asked c) (number c)) c.land_refusal-refusal.result
 unfolding landed
 decided c =
-    miss _ (negated c.before.before.well-formed-2.ensures c.before.if1.false)
-    ∙ ap (born_by (asked c) (number c) (landed_to (asked c) (number c))) (sym c.land-refusal.ensures)
+    miss _ (negated c.well_formed-2.ensures c.if-not-well_formed.false-raw)
+    ∙ ap (born_by (asked c) (number c) (landed_to (asked c) (number c))) (sym c.land_refusal-refusal.ensures)
 
 -- behind the stores
-abbrev from : tie.After-move-to → tie.After-land-refusal
+abbrev from : tie.After-move_to-after → tie.After-land_refusal-refusal
 from c = c.before.before.before.before
 
-stored : (c : tie.After-move-to) → c.move-to.result ≡ landed_to (asked (from c)) (number (from c))
+stored : (c : tie.After-move_to-after) → c.move_to-after.result ≡ landed_to (asked (from c)) (number (from c))
 stored c =
-    c.move-to.ensures
-    ∙ (ap (λ (b : Queue). with_phase b c.before.next-phase.result) c.before.before.grow.ensures
-    ∙ ap (with_phase (grown (asked (from c)) (number (from c)))) c.before.next-phase.ensures)
+    c.move_to-after.ensures
+    ∙ (ap (λ (b : Queue). with_phase b c.next_phase.result) c.grow-born.ensures
+    ∙ ap (with_phase (grown (asked (from c)) (number (from c)))) c.next_phase.ensures)
 
 pub land_spec : {M : Type 1} → statement M
 unfolding landed
@@ -45,11 +45,11 @@ land_spec =
     (tie.spec
     (λ c κs. search rules)
     (λ c κs. search rules)
-    (λ c. c.refused.ensures ∙ sym (hit _ (negated c.before.before.well-formed-2.ensures c.before.if1.true)))
+    (λ c. c.refused.ensures ∙ sym (hit _ (negated c.well_formed-2.ensures c.if-not-well_formed.true-raw)))
     (λ c κs. search rules)
     (λ c κs. search rules)
-    (λ c. c.refused2.ensures ∙ sym (decided c.before.before ∙ miss _ (ne_eqb _ _ c.before.if2.true)))
-    (λ c κs. land_room _ _ _ (sym c.before.land-refusal.ensures ∙ c.if2.false))
+    (λ c. c.refused-then-refusal-ne0.ensures ∙ sym (decided c.before.before ∙ miss _ (ne_eqb _ _ c.if-refusal-ne0.true)))
+    (λ c κs. land_room _ _ _ (sym c.land_refusal-refusal.ensures ∙ c.if-refusal-ne0.false))
     (λ c κs. search rules)
     (λ c κs. search rules)
-    (λ c. ap (born (asked (from c))) (stored c) ∙ sym (decided (from c) ∙ hit _ (eq-eqb _ _ c.before.before.before.if2.false))))
+    (λ c. ap (born (asked (from c))) (stored c) ∙ sym (decided (from c) ∙ hit _ (eq-eqb _ _ c.if-refusal-ne0.false))))

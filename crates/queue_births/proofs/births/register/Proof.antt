@@ -11,21 +11,21 @@ use Rattle.queue_births.proofs.births.register.Statement.{statement}
 use Rattle.queue_births.proofs.births.register.Tie as tie
 
 -- behind the decision: the record that is asked, the undo number, and the call by the decided number
-abbrev start : tie.After-register-refusal → tie.Start
+abbrev start : tie.After-register_refusal-refusal → tie.Start
 start c = c.before.before.before
 
-abbrev asked : tie.After-register-refusal → Queue
-asked c = (start c).args.q
+abbrev asked : tie.After-register_refusal-refusal → Queue
+asked c = c.args.q
 
-abbrev number : tie.After-register-refusal → ℕ
-number c = (start c).args.number
+abbrev number : tie.After-register_refusal-refusal → ℕ
+number c = c.args.number
 
-decided : (c : tie.After-register-refusal)
-    → registered (asked c) (number c) ≡ born_by (asked c) (number c) (grown (asked c) (number c)) c.register-refusal.result
+decided : (c : tie.After-register_refusal-refusal)
+    → registered (asked c) (number c) ≡ born_by (asked c) (number c) (grown (asked c) (number c)) c.register_refusal-refusal.result
 unfolding registered
 decided c =
-    miss _ (negated c.before.before.well-formed-2.ensures c.before.if1.false)
-    ∙ ap (born_by (asked c) (number c) (grown (asked c) (number c))) (sym c.register-refusal.ensures)
+    miss _ (negated c.well_formed-2.ensures c.if-not-well_formed.false-raw)
+    ∙ ap (born_by (asked c) (number c) (grown (asked c) (number c))) (sym c.register_refusal-refusal.ensures)
 
 pub register_spec : {M : Type 1} → statement M
 unfolding registered
@@ -34,11 +34,11 @@ register_spec =
     (tie.spec
     (λ c κs. search rules)
     (λ c κs. search rules)
-    (λ c. c.refused.ensures ∙ sym (hit _ (negated c.before.before.well-formed-2.ensures c.before.if1.true)))
+    (λ c. c.refused.ensures ∙ sym (hit _ (negated c.well_formed-2.ensures c.if-not-well_formed.true-raw)))
     (λ c κs. search rules)
     (λ c κs. search rules)
-    (λ c. c.refused2.ensures ∙ sym (decided c.before.before ∙ miss _ (ne_eqb _ _ c.before.if2.true)))
-    (λ c κs. register_room _ _ (sym c.before.register-refusal.ensures ∙ c.if2.false))
+    (λ c. c.refused-then-refusal-ne0.ensures ∙ sym (decided c.before.before ∙ miss _ (ne_eqb _ _ c.if-refusal-ne0.true)))
+    (λ c κs. register_room _ _ (sym c.register_refusal-refusal.ensures ∙ c.if-refusal-ne0.false))
     (λ c.
-    ap (born (asked c.before.before)) c.grow.ensures
-    ∙ sym (decided c.before.before ∙ hit _ (eq-eqb _ _ c.before.if2.false))))
+    ap (born (asked c.before.before)) c.grow-after.ensures
+    ∙ sym (decided c.before.before ∙ hit _ (eq-eqb _ _ c.if-refusal-ne0.false))))

@@ -21,15 +21,15 @@ from_kept s = if keeps_on_done s.args.outcome s.args.kept then kept_on_done else
 abbrev from_out : tie.Start → ℕ
 from_out s = if not (is_out s.args.issued s.args.selection s.args.ticket) then not_out else from_kept s
 
-abbrev start : tie.Else1 → tie.Start
+abbrev start : tie.Else-outcome-gt1 → tie.Start
 start c = c.before.before
 
-left1 : (c : tie.Else1) → whole (start c) ≡ from_out (start c)
+left1 : (c : tie.Else-outcome-gt1) → whole (start c) ≡ from_out (start c)
 unfolding complete_refusal
-left1 c = miss _ (le-ltb _ _ c.if1.false)
+left1 c = miss _ (le-ltb _ _ c.if-outcome-gt1.false)
 
-left2 : (c : tie.Else2) → whole (start c.before) ≡ from_kept (start c.before)
-left2 c = left1 c.before ∙ miss _ (negated c.before.before.is-out.ensures c.if2.false)
+left2 : (c : tie.Else-not-out) → whole (start c.before) ≡ from_kept (start c.before)
+left2 c = left1 c.before ∙ miss _ (negated c.is_out-out.ensures c.if-not-out.false-raw)
 
 pub complete_refusal_spec : {M : Type 1} → statement M
 unfolding complete_refusal
@@ -37,8 +37,8 @@ complete_refusal_spec =
     tie.close
     (tie.spec
     (λ c κs. search rules)
-    (λ c. sym (hit _ (lt-ltb _ _ c.if1.true)))
-    (λ c. sym (left1 c.before ∙ hit _ (negated c.before.before.is-out.ensures c.if2.true)))
+    (λ c. sym (hit _ (lt-ltb _ _ c.if-outcome-gt1.true)))
+    (λ c. sym (left1 c.before ∙ hit _ (negated c.is_out-out.ensures c.if-not-out.true-raw)))
     (λ c κs. search rules)
-    (λ c. sym (left2 c.before.before ∙ hit _ (sym c.before.keeps-on-done.ensures ∙ c.if3.true)))
-    (λ c. sym (left2 c.before.before ∙ miss _ (sym c.before.keeps-on-done.ensures ∙ c.if3.false))))
+    (λ c. sym (left2 c.before.before ∙ hit _ (sym c.keeps_on_done.ensures ∙ c.if-keeps_on_done.true)))
+    (λ c. sym (left2 c.before.before ∙ miss _ (sym c.keeps_on_done.ensures ∙ c.if-keeps_on_done.false))))

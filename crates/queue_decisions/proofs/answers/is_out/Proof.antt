@@ -14,12 +14,12 @@ use Rattle.queue_decisions.proofs.answers.is_out.Tie as tie
 abbrev out_by : tie.Start → Selection → Bool
 out_by s own = is_out s.args.issued own s.args.ticket
 
-abbrev start : tie.After-known-told → tie.Start
-start c = c.before.before.before
+abbrev start : tie.In-Of → tie.Start
+start c = c.before
 
 -- behind the reading of the selection: the ticket that was read there
-own : (c : tie.After-known-told) → out_by (start c) (start c).args.selection ≡ out_by (start c) (Of c.before.selection.given.0.0)
-own c = ap (out_by (start c)) c.before.selection.given.1
+own : (c : tie.In-Of) → out_by (start c) c.args.selection ≡ out_by (start c) (Of c.in-Of.own)
+own c = ap (out_by (start c)) c.in-Of.is
 
 pub is_out_spec : {M : Type 1} → statement M
 is_out_spec =
@@ -27,7 +27,7 @@ is_out_spec =
     (tie.spec
     (λ c. search rules)
     (λ c. search rules)
-    (λ c. sym (ap (out_by c.before.before) c.enum_told.given.1 ∙ and-false c.before.before.args.issued))
-    (λ c. sym (own c.before ∙ stop _ (not-true (start c.before).args.issued c.if1.true)))
+    (λ c. sym (ap (out_by c.before) c.in_default.is ∙ and-false c.args.issued))
+    (λ c. sym (own c.before ∙ stop _ (not-true c.args.issued c.if-not-issued.true-raw)))
     (λ c κs. search rules)
-    (λ c. c.same-ticket.ensures ∙ sym (own c.before.before ∙ pass _ (not-false (start c.before.before).args.issued c.before.if1.false))))
+    (λ c. c.same_ticket.ensures ∙ sym (own c.before.before ∙ pass _ (not-false c.args.issued c.if-not-issued.false-raw))))

@@ -9,5 +9,5 @@ pub keeps_on_done_spec : {M : Type 1} → statement M
 keeps_on_done_spec =
     tie.close
     (tie.spec
-    (λ c. sym (stop _ (ne_eqb _ _ c.if1.true)))
-    (λ c. sym (pass _ (eq-eqb _ _ c.if1.false))))
+    (λ c. sym (stop _ (ne_eqb _ _ c.if-outcome-ne0.true)))
+    (λ c. sym (pass _ (eq-eqb _ _ c.if-outcome-ne0.false))))

@@ -20,22 +20,22 @@ abbrev from_token : Ticket → Ticket → Bool
 from_token s t = eqb s.token t.token && from_attempt s t
 
 -- ---- the places behind the tests, each as seen from the next; two parts are read before each
-abbrev start1 : tie.Else1 → tie.Start
+abbrev start1 : tie.Else-a-b → tie.Start
 start1 c = c.before.before.before
 
-abbrev to1 : tie.Else2 → tie.Else1
+abbrev to1 : tie.Else-a-b-2 → tie.Else-a-b
 to1 c = c.before.before.before
 
-left1 : (c : tie.Else1) → Left from_token (start1 c)
-left1 c = pass _ (eq-eqb _ _ c.if1.false)
+left1 : (c : tie.Else-a-b) → Left from_token (start1 c)
+left1 c = pass _ (eq-eqb _ _ c.if-a-b.false)
 
-left2 : (c : tie.Else2) → Left from_attempt (start1 (to1 c))
-left2 c = left1 (to1 c) ∙ pass _ (eq-eqb _ _ c.if2.false)
+left2 : (c : tie.Else-a-b-2) → Left from_attempt (start1 (to1 c))
+left2 c = left1 (to1 c) ∙ pass _ (eq-eqb _ _ c.if-a-b-2.false)
 
 pub same_ticket_spec : {M : Type 1} → statement M
 same_ticket_spec =
     tie.close
     (tie.spec
-    (λ c. sym (stop _ (ne_eqb _ _ c.if1.true)))
-    (λ c. sym (left1 c.before.before.before ∙ stop _ (ne_eqb _ _ c.if2.true)))
+    (λ c. sym (stop _ (ne_eqb _ _ c.if-a-b.true)))
+    (λ c. sym (left1 c.before.before.before ∙ stop _ (ne_eqb _ _ c.if-a-b-2.true)))
     (λ c. sym (left2 c.before.before)))

@@ -23,23 +23,23 @@ from_room s = if leb 64 s.args.count then no_slot else done
 abbrev from_phase : tie.Start → ℕ
 from_phase s = if not (is_pending s.args.phase) then not_pending else from_room s
 
-abbrev to1 : tie.Else2 → tie.Else1
+abbrev to1 : tie.Else-not-pending → tie.Else-number-eq0
 to1 c = c.before.before
 
-left1 : (c : tie.Else1) → whole c.before ≡ from_phase c.before
+left1 : (c : tie.Else-number-eq0) → whole c.before ≡ from_phase c.before
 unfolding land_refusal
-left1 c = miss _ (ne_eqb _ _ c.if1.false)
+left1 c = miss _ (ne_eqb _ _ c.if-number-eq0.false)
 
-left2 : (c : tie.Else2) → whole (to1 c).before ≡ from_room (to1 c).before
-left2 c = left1 (to1 c) ∙ miss _ (negated c.before.pending.ensures c.if2.false)
+left2 : (c : tie.Else-not-pending) → whole (to1 c).before ≡ from_room (to1 c).before
+left2 c = left1 (to1 c) ∙ miss _ (negated c.pending.ensures c.if-not-pending.false-raw)
 
 pub land_refusal_spec : {M : Type 1} → statement M
 unfolding land_refusal
 land_refusal_spec =
     tie.close
     (tie.spec
-    (λ c. sym (hit _ (eq-eqb _ _ c.if1.true)))
+    (λ c. sym (hit _ (eq-eqb _ _ c.if-number-eq0.true)))
     (λ c κs. search rules)
-    (λ c. sym (left1 c.before.before ∙ hit _ (negated c.before.pending.ensures c.if2.true)))
-    (λ c. sym (left2 c.before ∙ hit _ (le-leb _ _ c.if3.true)))
-    (λ c. sym (left2 c.before ∙ miss _ (lt-leb _ _ c.if3.false))))
+    (λ c. sym (left1 c.before.before ∙ hit _ (negated c.pending.ensures c.if-not-pending.true-raw)))
+    (λ c. sym (left2 c.before ∙ hit _ (le-leb _ _ c.if-count-ge-MOST_TOKENS.true)))
+    (λ c. sym (left2 c.before ∙ miss _ (lt-leb _ _ c.if-count-ge-MOST_TOKENS.false))))

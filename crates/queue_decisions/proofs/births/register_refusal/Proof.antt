@@ -11,6 +11,6 @@ unfolding register_refusal
 register_refusal_spec =
     tie.close
     (tie.spec
-    (λ c. sym (hit _ (eq-eqb _ _ c.if1.true)))
-    (λ c. sym (miss _ (ne_eqb _ _ c.before.if1.false) ∙ hit _ (le-leb _ _ c.if2.true)))
-    (λ c. sym (miss _ (ne_eqb _ _ c.before.if1.false) ∙ miss _ (lt-leb _ _ c.if2.false))))
+    (λ c. sym (hit _ (eq-eqb _ _ c.if-number-eq0.true)))
+    (λ c. sym (miss _ (ne_eqb _ _ c.if-number-eq0.false) ∙ hit _ (le-leb _ _ c.if-count-ge-MOST_TOKENS.true)))
+    (λ c. sym (miss _ (ne_eqb _ _ c.if-number-eq0.false) ∙ miss _ (lt-leb _ _ c.if-count-ge-MOST_TOKENS.false))))

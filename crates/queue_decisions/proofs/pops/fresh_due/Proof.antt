@@ -16,21 +16,21 @@ abbrev found_by : tie.Start → Found → Due
 found_by s f = unless (is_marked s.args.issued s.args.failed) (fresh_due f s.args.number s.args.domain s.args.next)
 
 -- behind the reading of what was found: the token that was read there
-abbrev asked : tie.After-known-told → tie.Start
-asked c = c.before.before.before
+abbrev asked : tie.In-At → tie.Start
+asked c = c.before
 
-told : (c : tie.After-known-told) → found_by (asked c) (asked c).args.found ≡ found_by (asked c) (At c.before.found.given.0.0)
-told c = ap (found_by (asked c)) c.before.found.given.1
+told : (c : tie.In-At) → found_by (asked c) c.args.found ≡ found_by (asked c) (At c.in-At.token)
+told c = ap (found_by (asked c)) c.in-At.is
 
 -- where no mark stands: by the number
-abbrev to_told : tie.Else1 → tie.After-known-told
+abbrev to_told : tie.Else-marked → tie.In-At
 to_told c = c.before.before
 
-abbrev by_number : tie.After-known-told → Due
-by_number c = fresh_by c.before.found.given.0.0 (asked c).args.number (asked c).args.domain (asked c).args.next
+abbrev by_number : tie.In-At → Due
+by_number c = fresh_by c.in-At.token c.args.number c.args.domain c.args.next
 
-unmarked : (c : tie.Else1) → found_by (asked (to_told c)) (asked (to_told c)).args.found ≡ by_number (to_told c)
-unmarked c = told (to_told c) ∙ miss _ (sym c.before.marked.ensures ∙ c.if1.false)
+unmarked : (c : tie.Else-marked) → found_by (asked (to_told c)) c.args.found ≡ by_number (to_told c)
+unmarked c = told (to_told c) ∙ miss _ (sym c.marked.ensures ∙ c.if-marked.false)
 
 pub fresh_due_spec : {M : Type 1} → statement M
 fresh_due_spec =
@@ -39,11 +39,11 @@ fresh_due_spec =
     (λ c. search rules)
     (λ c. search rules)
     (λ c.
-    let s = c.before.before in
-    sym (ap (found_by s) c.enum_told.given.1 ∙ unless_nothing (is_marked s.args.issued s.args.failed)))
+    let s = c.before in
+    sym (ap (found_by s) c.in_default.is ∙ unless_nothing (is_marked s.args.issued s.args.failed)))
     (λ c κs. search rules)
-    (λ c. sym (told c.before.before ∙ hit _ (sym c.before.marked.ensures ∙ c.if1.true)))
-    (λ c. sym (unmarked c.before ∙ hit _ (eq-eqb _ _ c.if2.true)))
-    (λ c. sym (unmarked c.before.before ∙ (miss _ (ne_eqb _ _ c.before.if2.false) ∙ hit _ (le-leb _ _ c.if3.true))))
+    (λ c. sym (told c.before.before ∙ hit _ (sym c.marked.ensures ∙ c.if-marked.true)))
+    (λ c. sym (unmarked c.before ∙ hit _ (eq-eqb _ _ c.if-number-eq0.true)))
+    (λ c. sym (unmarked c.before.before ∙ (miss _ (ne_eqb _ _ c.if-number-eq0.false) ∙ hit _ (le-leb _ _ c.if-next-ge-NO_MORE.true))))
     (λ c. search rules)
-    (λ c. sym (unmarked c.before.before ∙ (miss _ (ne_eqb _ _ c.before.if2.false) ∙ miss _ (lt-leb _ _ c.if3.false)))))
+    (λ c. sym (unmarked c.before.before ∙ (miss _ (ne_eqb _ _ c.if-number-eq0.false) ∙ miss _ (lt-leb _ _ c.if-next-ge-NO_MORE.false)))))

@@ -9,5 +9,5 @@ pub marked_spec : {M : Type 1} → statement M
 marked_spec =
     tie.close
     (tie.spec
-    (λ c. sym (either _ c.if1.true))
-    (λ c. sym (other _ c.if1.false)))
+    (λ c. sym (either _ c.if-issued.true))
+    (λ c. sym (other _ c.if-issued.false)))

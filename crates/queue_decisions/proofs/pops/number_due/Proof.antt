@@ -13,21 +13,21 @@ use Rattle.queue_decisions.proofs.pops.number_due.Tie as tie
 abbrev by_both : tie.Start → Selection → Found → ℕ
 by_both s own found = number_due own found s.args.slots.now
 
-abbrev ready : tie.After-known-told → tie.Start
-ready c = c.before.before.before.before
+abbrev ready : tie.In-Of → tie.Start
+ready c = c.before.before
 
 -- where nothing is selected
-abbrev start : tie.After-enum-told → tie.Start
-start c = c.before.before.before
+abbrev start : tie.In_default → tie.Start
+start c = c.before.before
 
-free : (c : tie.After-enum-told) {found : Found} → (start c).args.found ≡ found
-    → by_both (start c) (start c).args.selection (start c).args.found ≡ by_both (start c) Free found
+free : (c : tie.In_default) {found : Found} → c.args.found ≡ found
+    → by_both (start c) c.args.selection c.args.found ≡ by_both (start c) Free found
 free c e =
-    ap (λ (s : Selection). by_both (start c) s (start c).args.found) c.enum_told.given.1
+    ap (λ (s : Selection). by_both (start c) s c.args.found) c.in_default.is
     ∙ ap (by_both (start c) Free) e
 
-abbrev to_free : tie.After-known-told2 → tie.After-enum-told
-to_free c = c.before.before.before
+abbrev to_free : tie.In-At → tie.In_default
+to_free c = c.before
 
 pub number_due_spec : {M : Type 1} → statement M
 number_due_spec =
@@ -37,10 +37,10 @@ number_due_spec =
     (λ c κs. search rules)
     (λ c.
     let s = ready c.before in
-    c.slot_at.ensures ∙ sym (ap (λ (own : Selection). by_both s own s.args.found) c.before.before.selection.given.1))
+    c.slot_at.ensures ∙ sym (ap (λ (own : Selection). by_both s own s.args.found) c.in-Of.is))
     (λ c. search rules)
     (λ c. search rules)
     (λ c. search rules)
-    (λ c. sym (free c.before.before c.enum-told2.given.1))
+    (λ c. sym (free c.before c.in_default-found.is))
     (λ c κs. search rules)
-    (λ c. c.slot-at2.ensures ∙ sym (free (to_free c.before) c.before.before.found.given.1)))
+    (λ c. c.slot_at-2.ensures ∙ sym (free (to_free c.before) c.in-At.is)))

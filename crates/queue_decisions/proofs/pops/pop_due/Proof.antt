@@ -23,8 +23,8 @@ marks x e =
     marks_once x.args.issued x.args.failed _
     ∙ ap (λ (s : Selection). unless (is_marked x.args.issued x.args.failed) (by_own x s)) e
 
-abbrev start : tie.After-known-told → tie.Start
-start c = c.before.before.before
+abbrev start : tie.In-Of → tie.Start
+start c = c.before
 
 pub pop_due_spec : {M : Type 1} → statement M
 pop_due_spec =
@@ -33,6 +33,6 @@ pop_due_spec =
     (λ c. search rules)
     (λ c. search rules)
     (λ c κs. search rules)
-    (λ c. c.fresh-due.ensures ∙ sym (marks c.before.before.before c.before.enum_told.given.1))
+    (λ c. c.fresh_due.ensures ∙ sym (marks c.before.before c.in_default.is))
     (λ c κs. search rules)
-    (λ c. c.ready-due.ensures ∙ sym (marks (start c.before) c.before.before.selection.given.1)))
+    (λ c. c.ready_due.ensures ∙ sym (marks (start c.before) c.in-Of.is)))

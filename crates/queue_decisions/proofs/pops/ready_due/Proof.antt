@@ -9,20 +9,20 @@ use Rattle.queue_decisions.proofs.pops.ready_due.Statement.{statement}
 use Rattle.queue_decisions.proofs.pops.ready_due.Tie as tie
 
 -- where no mark stands: by the number
-abbrev start : tie.Else1 → tie.Start
+abbrev start : tie.Else-marked → tie.Start
 start c = c.before.before
 
 abbrev by_number : tie.Start → Due
 by_number s = ready_by s.args.ready s.args.number s.args.next
 
-unmarked : (c : tie.Else1) → unless (is_marked (start c).args.issued (start c).args.failed) (by_number (start c)) ≡ by_number (start c)
-unmarked c = miss _ (sym c.before.marked.ensures ∙ c.if1.false)
+unmarked : (c : tie.Else-marked) → unless (is_marked c.args.issued c.args.failed) (by_number (start c)) ≡ by_number (start c)
+unmarked c = miss _ (sym c.marked.ensures ∙ c.if-marked.false)
 
 pub ready_due_spec : {M : Type 1} → statement M
 ready_due_spec =
     tie.close
     (tie.spec
     (λ c κs. search rules)
-    (λ c. sym (hit _ (sym c.before.marked.ensures ∙ c.if1.true)))
-    (λ c. sym (unmarked c.before ∙ hit _ (eq-eqb _ _ c.if2.true)))
-    (λ c. sym (unmarked c.before ∙ miss _ (ne_eqb _ _ c.if2.false))))
+    (λ c. sym (hit _ (sym c.marked.ensures ∙ c.if-marked.true)))
+    (λ c. sym (unmarked c.before ∙ hit _ (eq-eqb _ _ c.if-number-eq0.true)))
+    (λ c. sym (unmarked c.before ∙ miss _ (ne_eqb _ _ c.if-number-eq0.false))))

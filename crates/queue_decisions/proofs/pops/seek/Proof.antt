@@ -7,8 +7,8 @@ use Rattle.queue_decisions.proofs.pops.seek.Statement.{statement}
 use Rattle.queue_decisions.proofs.pops.seek.Tie as tie
 
 -- nothing is selected
-abbrev start : tie.After-enum-told → tie.Start
-start c = c.before.before.before
+abbrev start : tie.In-Free → tie.Start
+start c = c.before.before
 
 pub seek_spec : {M : Type 1} → statement M
 seek_spec =
@@ -19,5 +19,5 @@ seek_spec =
     (λ c. search rules)
     (λ c κs. search rules)
     (λ c.
-    c.newest-place.ensures
-    ∙ sym (ap (λ (s : Selection). sought s (start c.before).args.slots.now) c.before.enum_told.given.1)))
+    c.newest_place.ensures
+    ∙ sym (ap (λ (s : Selection). sought s c.args.slots.now) c.in-Free.is)))

@@ -15,18 +15,18 @@ abbrev by_own : tie.Start → Selection → Bool
 by_own s = allowed_by s.args.failed s.args.slots.now s.args.next
 
 -- behind the reading of the ticket's slot
-abbrev to_known : tie.After-slot-at → tie.After-shared-slice-known
-to_known c = c.before.before.before.before
+abbrev to_known : tie.After-slot_at → tie.After-shared_slice_known-1
+to_known c = c.before.before
 
-abbrev start : tie.After-slot-at → tie.Start
+abbrev start : tie.After-slot_at → tie.Start
 start c = (to_known c).before
 
-own : (c : tie.After-slot-at)
-    → eqb (retry_refusal (start c).args.failed c.slot_at.result (start c).args.next) 0 ≡ by_own (start c) (start c).args.selection
+own : (c : tie.After-slot_at)
+    → eqb (retry_refusal c.args.failed c.slot_at.result c.args.next) 0 ≡ by_own (start c) c.args.selection
 own c =
-    sym (allowed_unrefused (start c).args.failed c.slot_at.result (start c).args.next)
-    ∙ (ap (λ (n : ℕ). may_retry (start c).args.failed n (start c).args.next) c.slot_at.ensures
-    ∙ sym (ap (by_own (start c)) c.before.before.selection.given.1))
+    sym (allowed_unrefused c.args.failed c.slot_at.result c.args.next)
+    ∙ (ap (λ (n : ℕ). may_retry c.args.failed n c.args.next) c.slot_at.ensures
+    ∙ sym (ap (by_own (start c)) c.in-Of.is))
 
 pub retry_allowed_spec : {M : Type 1} → statement M
 retry_allowed_spec =
@@ -34,7 +34,7 @@ retry_allowed_spec =
     (tie.spec
     (λ c. search rules)
     (λ c. search rules)
-    (λ c. sym (ap (by_own c.before.before.before) c.enum_told.given.1))
+    (λ c. sym (ap (by_own c.before.before) c.in_default.is))
     (λ c κs. search rules)
     (λ c κs. search rules)
-    (λ c. ap (λ (n : ℕ). eqb n 0) c.retry-refusal.ensures ∙ own c.before))
+    (λ c. ap (λ (n : ℕ). eqb n 0) c.retry_refusal.ensures ∙ own c.before))

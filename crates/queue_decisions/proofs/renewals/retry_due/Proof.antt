@@ -16,26 +16,26 @@ abbrev by_own : tie.Start → Selection → Renewal
 by_own s = due_again s.args.failed s.args.slots.now s.args.next
 
 -- behind the reading of the ticket's slot
-abbrev to_known : tie.After-slot-at → tie.After-shared-slice-known
-to_known c = c.before.before.before.before
+abbrev to_known : tie.After-slot_at → tie.After-shared_slice_known-1
+to_known c = c.before.before
 
-abbrev start : tie.After-slot-at → tie.Start
+abbrev start : tie.After-slot_at → tie.Start
 start c = (to_known c).before
 
-abbrev old : tie.After-slot-at → Ticket
-old c = c.before.before.selection.given.0.0
+abbrev old : tie.After-slot_at → Ticket
+old c = c.in-Of.old
 
 -- by the number that was read there, and by what was decided
-abbrev decided_by : tie.After-slot-at → ℕ → Renewal
-decided_by c refusal = renewed_unless refusal (renewed_of (old c) (start c).args.next)
+abbrev decided_by : tie.After-slot_at → ℕ → Renewal
+decided_by c refusal = renewed_unless refusal (renewed_of (old c) c.args.next)
 
-abbrev read_by : tie.After-slot-at → ℕ → Renewal
-read_by c number = decided_by c (retry_refusal (start c).args.failed number (start c).args.next)
+abbrev read_by : tie.After-slot_at → ℕ → Renewal
+read_by c number = decided_by c (retry_refusal c.args.failed number c.args.next)
 
-decided : (c : tie.After-retry-refusal) → by_own (start c.before) (start c.before).args.selection ≡ decided_by c.before c.retry-refusal.result
+decided : (c : tie.After-retry_refusal-refusal) → by_own (start c.before) c.args.selection ≡ decided_by c.before c.retry_refusal-refusal.result
 decided c =
-    ap (by_own (start c.before)) c.before.before.before.selection.given.1
-    ∙ (ap (read_by c.before) (sym c.before.slot_at.ensures) ∙ ap (decided_by c.before) (sym c.retry-refusal.ensures))
+    ap (by_own (start c.before)) c.in-Of.is
+    ∙ (ap (read_by c.before) (sym c.slot_at.ensures) ∙ ap (decided_by c.before) (sym c.retry_refusal-refusal.ensures))
 
 pub retry_due_spec : {M : Type 1} → statement M
 unfolding retry_due
@@ -44,8 +44,8 @@ retry_due_spec =
     (tie.spec
     (λ c. search rules)
     (λ c. search rules)
-    (λ c. sym (ap (by_own c.before.before.before) c.enum_told.given.1))
+    (λ c. sym (ap (by_own c.before.before) c.in_default.is))
     (λ c κs. search rules)
     (λ c κs. search rules)
-    (λ c. sym (decided c.before ∙ miss _ (ne_eqb _ _ c.if1.true)))
-    (λ c. sym (decided c.before ∙ hit _ (eq-eqb _ _ c.if1.false))))
+    (λ c. sym (decided c.before ∙ miss _ (ne_eqb _ _ c.if-refusal-ne0.true)))
+    (λ c. sym (decided c.before ∙ hit _ (eq-eqb _ _ c.if-refusal-ne0.false))))

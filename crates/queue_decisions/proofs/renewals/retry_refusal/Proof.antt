@@ -21,17 +21,17 @@ from_kept s = if eqb s.args.number 0 then nothing_kept else if leb no_more s.arg
 abbrev from_next : tie.Start → ℕ
 from_next s = if leb no_more s.args.next then no_further_attempt else done
 
-left1 : (c : tie.Else1) → whole c.before ≡ from_kept c.before
-left1 c = miss _ c.if1.false
+left1 : (c : tie.Else-not-failed) → whole c.before ≡ from_kept c.before
+left1 c = miss _ c.if-not-failed.false-raw
 
-left2 : (c : tie.Else2) → whole c.before.before ≡ from_next c.before.before
-left2 c = left1 c.before ∙ miss _ (ne_eqb _ _ c.if2.false)
+left2 : (c : tie.Else-number-eq0) → whole c.before.before ≡ from_next c.before.before
+left2 c = left1 c.before ∙ miss _ (ne_eqb _ _ c.if-number-eq0.false)
 
 pub retry_refusal_spec : {M : Type 1} → statement M
 retry_refusal_spec =
     tie.close
     (tie.spec
-    (λ c. sym (hit _ c.if1.true))
-    (λ c. sym (left1 c.before ∙ hit _ (eq-eqb _ _ c.if2.true)))
-    (λ c. sym (left2 c.before ∙ hit _ (le-leb _ _ c.if3.true)))
-    (λ c. sym (left2 c.before ∙ miss _ (lt-leb _ _ c.if3.false))))
+    (λ c. sym (hit _ c.if-not-failed.true-raw))
+    (λ c. sym (left1 c.before ∙ hit _ (eq-eqb _ _ c.if-number-eq0.true)))
+    (λ c. sym (left2 c.before ∙ hit _ (le-leb _ _ c.if-next-ge-NO_MORE.true)))
+    (λ c. sym (left2 c.before ∙ miss _ (lt-leb _ _ c.if-next-ge-NO_MORE.false))))

@@ -9,7 +9,7 @@ pub slot_at_spec : {M : Type 1} → statement M
 slot_at_spec =
     tie.close
     (tie.spec
-    (λ c. sym (get_or-eq_default c.before.args.slots.now 0 c.if1.true))
+    (λ c. sym (get_or-eq_default c.args.slots.now 0 c.if-slots-at.true))
     (λ c. search rules)
     (λ c. search rules)
     (λ c. search rules))

@@ -16,16 +16,16 @@ use Rattle.queue_questions.proofs.questions.can_finish.Statement.{statement}
 use Rattle.queue_questions.proofs.questions.can_finish.Tie as tie
 
 -- behind the check: the record that is asked, which is well formed
-abbrev asked : tie.Else1 → Queue
-asked c = c.before.before.before.args.q
+abbrev asked : tie.Else-not-well_formed → Queue
+asked c = c.args.q
 
-passed : (c : tie.Else1) → not (well_formed (asked c)) ≡ false
-passed c = negated c.before.well-formed-2.ensures c.if1.false
+passed : (c : tie.Else-not-well_formed) → not (well_formed (asked c)) ≡ false
+passed c = negated c.well_formed-2.ensures c.if-not-well_formed.false-raw
 
-within : (c : tie.Else1) → (asked c).bound ≤ 16
-within c = (fit (asked c) (sym c.before.well-formed-2.ensures ∙ not-false _ c.if1.false)).given.bound
+within : (c : tie.Else-not-well_formed) → (asked c).bound ≤ 16
+within c = (fit (asked c) (sym c.well_formed-2.ensures ∙ not-false _ c.if-not-well_formed.false-raw)).given.bound
 
-abbrev to1 : tie.After-may-finish → tie.Else1
+abbrev to1 : tie.After-may_finish → tie.Else-not-well_formed
 to1 c = c.before.before.before
 
 pub can_finish_spec : {M : Type 1} → statement M
@@ -34,7 +34,7 @@ can_finish_spec =
     tie.close
     (tie.spec
     (λ c κs. search rules)
-    (λ c. sym (hit _ (negated c.before.well-formed-2.ensures c.if1.true)))
+    (λ c. sym (hit _ (negated c.well_formed-2.ensures c.if-not-well_formed.true-raw)))
     (λ c.
     let q = asked c.before in
     let l : length q.bindings ≡ 16 = search rules in
@@ -47,4 +47,4 @@ can_finish_spec =
     sym (length-take-le q.bound q.bindings (omega arith)))
     (λ c κs. search rules)
     (λ c κs. search rules)
-    (λ c. c.say.ensures ∙ (ap yes_or_no c.before.may_finish.ensures ∙ sym (miss _ (passed (to1 c.before))))))
+    (λ c. c.say.ensures ∙ (ap yes_or_no c.may_finish.ensures ∙ sym (miss _ (passed (to1 c.before))))))

@@ -18,23 +18,23 @@ use Rattle.queue_questions.proofs.questions.is_empty.Statement.{statement}
 use Rattle.queue_questions.proofs.questions.is_empty.Tie as tie
 
 -- behind the check: the record that is asked, which is well formed
-abbrev asked : tie.Else1 → Queue
-asked c = c.before.before.args.q
+abbrev asked : tie.Else-not-well_formed → Queue
+asked c = c.args.q
 
-sound : (c : tie.Else1) → well_formed (asked c) ≡ true
-sound c = sym c.before.well-formed-2.ensures ∙ not-false _ c.if1.false
+sound : (c : tie.Else-not-well_formed) → well_formed (asked c) ≡ true
+sound c = sym c.well_formed-2.ensures ∙ not-false _ c.if-not-well_formed.false-raw
 
-within : (c : tie.Else1) → (asked c).count ≤ length (asked c).slots
+within : (c : tie.Else-not-well_formed) → (asked c).count ≤ length (asked c).slots
 within c = tokens_within (asked c) (sound c) (search rules)
 
-passed : (c : tie.Else1) → not (well_formed (asked c)) ≡ false
-passed c = negated c.before.well-formed-2.ensures c.if1.false
+passed : (c : tie.Else-not-well_formed) → not (well_formed (asked c)) ≡ false
+passed c = negated c.well_formed-2.ensures c.if-not-well_formed.false-raw
 
-abbrev to1 : tie.After-nothing-left → tie.Else1
+abbrev to1 : tie.After-nothing_left → tie.Else-not-well_formed
 to1 c = c.before.before.before
 
 -- the tokens' slots are all that can wait
-left : (c : tie.After-nothing-left) → c.nothing_left.result ≡ nothing_left (asked (to1 c)).selection (waiting (asked (to1 c)))
+left : (c : tie.After-nothing_left) → c.nothing_left.result ≡ nothing_left (asked (to1 c)).selection (waiting (asked (to1 c)))
 left c =
     let q = asked (to1 c) in
     c.nothing_left.ensures
@@ -46,7 +46,7 @@ is_empty_spec =
     tie.close
     (tie.spec
     (λ c κs. search rules)
-    (λ c. sym (hit _ (negated c.before.well-formed-2.ensures c.if1.true)))
+    (λ c. sym (hit _ (negated c.well_formed-2.ensures c.if-not-well_formed.true-raw)))
     (λ c. within c.before)
     (λ c.
     let e = c.before.before in

@@ -12,6 +12,6 @@ is_issued_spec =
     tie.close
     (tie.spec
     (λ c κs. search rules)
-    (λ c. sym (hit _ (negated c.before.well-formed-2.ensures c.if1.true)))
+    (λ c. sym (hit _ (negated c.well_formed-2.ensures c.if-not-well_formed.true-raw)))
     (λ c κs. search rules)
-    (λ c. c.say.ensures ∙ sym (miss _ (negated c.before.before.well-formed-2.ensures c.before.if1.false))))
+    (λ c. c.say.ensures ∙ sym (miss _ (negated c.well_formed-2.ensures c.if-not-well_formed.false-raw))))

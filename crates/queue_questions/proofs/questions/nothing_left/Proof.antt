@@ -12,8 +12,8 @@ use Rattle.queue_questions.proofs.questions.nothing_left.Statement.{statement}
 use Rattle.queue_questions.proofs.questions.nothing_left.Tie as tie
 
 -- what is asked, by a selection
-abbrev asked : tie.After-newest-place → tie.Start
-asked c = c.before.before.before.before
+abbrev asked : tie.After-newest_place-found → tie.Start
+asked c = c.before.before.before
 
 abbrev left_by : tie.Start → Selection → Bool
 left_by s k = nothing_left k (others k (occupied 0 s.args.slots.now))
@@ -28,7 +28,7 @@ nothing_left_spec =
     (λ c κs. search rules)
     (λ c. search rules)
     (λ c. search rules)
-    (λ c. sym (ap (left_by (asked c.before.before)) c.before.before.before.enum_told.given.1 ∙ newest_left _ _ (sym c.before.before.newest-place.ensures ∙ c.enum-told4.given.1)))
+    (λ c. sym (ap (left_by (asked c.before)) c.in-Free.is ∙ newest_left _ _ (sym c.newest_place-found.ensures ∙ c.in_default-found.is)))
     (λ c.
-    sym (ap (left_by (asked c.before.before)) c.before.before.before.enum_told.given.1
-    ∙ ap (nothing_left Free) (newest_none _ (sym c.before.before.newest-place.ensures ∙ c.enum-told3.given.1)))))
+    sym (ap (left_by (asked c.before)) c.in-Free.is
+    ∙ ap (nothing_left Free) (newest_none _ (sym c.newest_place-found.ensures ∙ c.in-Missing.is)))))

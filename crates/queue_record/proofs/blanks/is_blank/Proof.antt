@@ -11,6 +11,6 @@ is_blank_spec =
     tie.close
     (tie.spec
     (λ c κs. search rules)
-    (λ c. sym (stop _ (sym c.before.is-unmarked.ensures ∙ not-true _ c.if1.true)))
+    (λ c. sym (stop _ (sym c.is_unmarked.ensures ∙ not-true _ c.if-not-is_unmarked.true-raw)))
     (λ c κs. search rules)
-    (λ c. c.is-unnumbered.ensures ∙ sym (pass _ (sym c.before.before.is-unmarked.ensures ∙ not-false _ c.before.if1.false))))
+    (λ c. c.is_unnumbered.ensures ∙ sym (pass _ (sym c.is_unmarked.ensures ∙ not-false _ c.if-not-is_unmarked.false-raw))))

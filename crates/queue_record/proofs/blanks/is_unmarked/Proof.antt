@@ -9,10 +9,10 @@ use Rattle.queue_record.proofs.blanks.is_unmarked.Statement.{statement}
 use Rattle.queue_record.proofs.blanks.is_unmarked.Tie as tie
 
 -- behind the kind and the selection, each as seen from the next
-abbrev to_kind : tie.After-enum-told3 → tie.After-enum-told
-to_kind c = c.before.before
+abbrev to_kind : tie.In-Free → tie.In-Scope
+to_kind c = c.before
 
-abbrev to_free : tie.Else2 → tie.After-enum-told3
+abbrev to_free : tie.Else-q-2 → tie.In-Free
 to_free c = c.before.before
 
 pub is_unmarked_spec : {M : Type 1} → statement M
@@ -21,17 +21,17 @@ is_unmarked_spec =
     (tie.spec
     (λ c. search rules)
     (λ c. search rules)
-    (λ c. sym (stop _ (ap is_scope c.enum-told2.given.1)))
+    (λ c. sym (stop _ (ap is_scope c.in_default.is)))
     (λ c. search rules)
     (λ c. search rules)
-    (λ c. sym (pass _ (ap is_scope c.before.before.enum_told.given.1) ∙ stop _ (ap not (ap is_selected c.enum-told4.given.1))))
-    (λ c. sym (pass _ (ap is_scope (to_kind c.before).enum_told.given.1) ∙ (pass _ (ap not (ap is_selected c.before.enum-told3.given.1)) ∙ stop _ (ap not c.if1.true))))
+    (λ c. sym (pass _ (ap is_scope c.in-Scope.is) ∙ stop _ (ap not (ap is_selected c.in_default-selection.is))))
+    (λ c. sym (pass _ (ap is_scope c.in-Scope.is) ∙ (pass _ (ap not (ap is_selected c.in-Free.is)) ∙ stop _ (ap not c.if-q.true))))
     (λ c.
-    sym (pass _ (ap is_scope (to_kind c.before.before).enum_told.given.1)
-    ∙ (pass _ (ap not (ap is_selected c.before.before.enum-told3.given.1)) ∙ (pass _ (ap not c.before.if1.false) ∙ stop _ (ap not c.if2.true)))))
+    sym (pass _ (ap is_scope c.in-Scope.is)
+    ∙ (pass _ (ap not (ap is_selected c.in-Free.is)) ∙ (pass _ (ap not c.if-q.false) ∙ stop _ (ap not c.if-q-2.true)))))
     (λ c κs. search rules)
     (λ c.
     ap not c.differ.ensures
-    ∙ sym (pass _ (ap is_scope (to_kind (to_free c.before)).enum_told.given.1)
-    ∙ (pass _ (ap not (ap is_selected (to_free c.before).enum-told3.given.1))
-    ∙ (pass _ (ap not c.before.before.if1.false) ∙ pass _ (ap not c.before.if2.false))))))
+    ∙ sym (pass _ (ap is_scope c.in-Scope.is)
+    ∙ (pass _ (ap not (ap is_selected c.in-Free.is))
+    ∙ (pass _ (ap not c.if-q.false) ∙ pass _ (ap not c.if-q-2.false))))))

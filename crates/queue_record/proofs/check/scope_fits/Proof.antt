@@ -16,11 +16,11 @@ scope_fits_spec =
     (λ c. search rules)
     (λ c. search rules)
     (λ c.
-    sym (ap (λ (k : Kind). scope_fits k (c.before.before.before.args.bound) (c.before.before.before.args.phase)) c.before.enum_told.given.1
-    ∙ stop _ (ne_eqb _ _ c.if1.true)))
+    sym (ap (λ (k : Kind). scope_fits k (c.args.bound) (c.args.phase)) c.in-Scope.is
+    ∙ stop _ (ne_eqb _ _ c.if-bound-ne0.true)))
     (λ c κs. search rules)
     (λ c.
     c.settled.ensures
-    ∙ sym (ap (λ (k : Kind). scope_fits k (c.before.before.before.before.args.bound) (c.before.before.before.before.args.phase))
-    c.before.before.enum_told.given.1
-    ∙ pass _ (eq-eqb _ _ c.before.if1.false))))
+    ∙ sym (ap (λ (k : Kind). scope_fits k (c.args.bound) (c.args.phase))
+    c.in-Scope.is
+    ∙ pass _ (eq-eqb _ _ c.if-bound-ne0.false))))

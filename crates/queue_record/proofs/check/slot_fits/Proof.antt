@@ -10,6 +10,6 @@ slot_fits_spec =
     tie.close
     (tie.spec
     (λ c. search rules)
-    (λ c. sym (issued_slot _ _ (c.before.before.args.number) c.before.if1.true c.if2.false))
+    (λ c. sym (issued_slot _ _ (c.args.number) c.if-issued.true c.if-failed.false))
     (λ c. search rules)
-    (λ c. sym (ready_slot _ _ (c.before.before.args.number) c.before.if1.false c.if3.false)))
+    (λ c. sym (ready_slot _ _ (c.args.number) c.if-issued.false c.if-failed-2.false)))

@@ -9,6 +9,6 @@ pub ticket_fits_spec : {M : Type 1} → statement M
 ticket_fits_spec =
     tie.close
     (tie.spec
-    (λ c. sym (stop _ (ne_eqb _ _ c.if1.true)))
-    (λ c. sym (pass _ (eq-eqb _ _ c.before.before.if1.false) ∙ stop _ (le-ltb _ _ c.if2.true)))
-    (λ c. sym (pass _ (eq-eqb _ _ c.before.before.before.if1.false) ∙ pass _ (lt-ltb _ _ c.before.if2.false))))
+    (λ c. sym (stop _ (ne_eqb _ _ c.if-t-domain.true)))
+    (λ c. sym (pass _ (eq-eqb _ _ c.if-t-domain.false) ∙ stop _ (le-ltb _ _ c.if-count-t.true)))
+    (λ c. sym (pass _ (eq-eqb _ _ c.if-t-domain.false) ∙ pass _ (lt-ltb _ _ c.if-count-t.false))))

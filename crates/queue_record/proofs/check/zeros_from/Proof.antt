@@ -8,23 +8,23 @@ use borrow.Author.Rules.{rules}
 use Rattle.queue_record.proofs.check.zeros_from.Statement.{statement}
 use Rattle.queue_record.proofs.check.zeros_from.Tie as tie
 
-abbrev invariant-loop : tie.invariant-loop
-invariant-loop s from i₀ i = rest_zero i s ≡ rest_zero from s
+abbrev invariant-loop-i : tie.invariant-loop-i
+invariant-loop-i s from i₀ i = rest_zero i s ≡ rest_zero from s
 
-abbrev decreases-loop : tie.decreases-loop
-decreases-loop s from i₀ i = length s - i
+abbrev decreases-loop-i : tie.decreases-loop-i
+decreases-loop-i s from i₀ i = length s - i
 
 pub zeros_from_spec : {M : Type 1} → statement M
 zeros_from_spec =
     tie.close
     (tie.spec
-    invariant-loop
-    decreases-loop
+    invariant-loop-i
+    decreases-loop-i
     (λ c. search rules)
     (λ c. search rules)
     (λ c. search rules)
-    (λ c. sym (zero_hit _ _ c.before.before.loop-test.true c.if1.true) ∙ c.before.before.before.loop.invariant)
+    (λ c. sym (zero_hit _ _ c.loop-i-test.true c.if-s-i-ne0.true) ∙ c.loop-i.invariant)
     (λ c. search rules)
     (λ c. search rules)
-    (λ c. zero_pass _ _ c.before.before.loop-test.true c.if1.false ∙ c.before.before.before.loop.invariant)
-    (λ c. sym (zero_end _ _ c.loop-test.false) ∙ c.before.loop.invariant))
+    (λ c. zero_pass _ _ c.loop-i-test.true c.if-s-i-ne0.false ∙ c.loop-i.invariant)
+    (λ c. sym (zero_end _ _ c.loop-i-test.false) ∙ c.loop-i.invariant))

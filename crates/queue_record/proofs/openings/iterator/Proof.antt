@@ -21,7 +21,7 @@ iterator_spec =
     tie.close
     (tie.spec
     (λ c κs. search rules)
-    (λ c. ap (answered (Refused too_many_bindings)) c.blank.ensures ∙ sym (hit _ (lt-ltb _ _ c.before.if1.true)))
+    (λ c. ap (answered (Refused too_many_bindings)) c.blank-none.ensures ∙ sym (hit _ (lt-ltb _ _ c.if-bound-gt-MOST_BINDINGS.true)))
     (λ c κs. search rules)
     (λ c κs. search rules)
-    (λ c. ap (answered Open) c.started.ensures ∙ rw (c.before.places_of.ensures) (sym (miss _ (le-ltb _ _ c.before.before.if1.false)))))
+    (λ c. ap (answered Open) c.started-queue.ensures ∙ rw (c.places_of-places.ensures) (sym (miss _ (le-ltb _ _ c.if-bound-gt-MOST_BINDINGS.false)))))

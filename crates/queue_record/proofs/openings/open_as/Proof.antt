@@ -20,5 +20,5 @@ open_as_spec =
     (λ c κs. search rules)
     (λ c. search rules)
     (λ c κs. search rules)
-    (λ c. c.scope.ensures ∙ sym (by_kind c.before.before.before.before.args.heading c.before.before.before.before.args.bindings.now c.before.enum_told.given.1))
-    (λ c. c.iterator.ensures ∙ sym (by_kind c.before.before.before.before.args.heading c.before.before.before.before.args.bindings.now c.before.enum-told2.given.1)))
+    (λ c. c.scope.ensures ∙ sym (by_kind c.args.heading c.args.bindings.now c.in-Scope.is))
+    (λ c. c.iterator.ensures ∙ sym (by_kind c.args.heading c.args.bindings.now c.in-Iterator.is)))

@@ -17,4 +17,4 @@ scope_spec =
     tie.close
     (tie.spec
     (λ c κs. search rules)
-    (λ c. ap as_open c.started.ensures))
+    (λ c. ap as_open c.started-queue.ensures))

@@ -9,18 +9,18 @@ use Rattle.queue_record.proofs.tally.slot_share.Statement.{statement}
 use Rattle.queue_record.proofs.tally.slot_share.Tie as tie
 
 -- behind the selection: what is asked, and the share that is left of the definition
-abbrev asked : tie.After-selection → tie.Start
-asked c = c.before.before.before
+abbrev asked : tie.In-Of → tie.Start
+asked c = c.before.before
 
-left : (c : tie.After-selection) → share (asked c).args.selection (asked c).args.place (asked c).args.number ≡ share_of (asked c).args.place (Of c.selection.given.0.0)
-left c = miss _ (ne_eqb _ _ c.before.before.if1.false) ∙ ap (share_of (asked c).args.place) c.selection.given.1
+left : (c : tie.In-Of) → share c.args.selection c.args.place c.args.number ≡ share_of c.args.place (Of c.in-Of.ticket)
+left c = miss _ (ne_eqb _ _ c.if-number-eq0.false) ∙ ap (share_of c.args.place) c.in-Of.is
 
 pub slot_share_spec : {M : Type 1} → statement M
 slot_share_spec =
     tie.close (tie.spec
-    (λ c. sym (hit _ (eq-eqb _ _ c.if1.true)))
+    (λ c. sym (hit _ (eq-eqb _ _ c.if-number-eq0.true)))
     (λ c. search rules)
     (λ c. search rules)
-    (λ c. sym (miss _ (ne_eqb _ _ c.before.before.if1.false) ∙ ap (share_of c.before.before.before.args.place) c.enum_told.given.1))
-    (λ c. sym (left c.before.before.before ∙ hit _ (eq-eqb _ _ c.if2.true)))
-    (λ c. sym (left c.before.before.before ∙ miss _ (ne_eqb _ _ c.if2.false))))
+    (λ c. sym (miss _ (ne_eqb _ _ c.if-number-eq0.false) ∙ ap (share_of c.args.place) c.in_default.is))
+    (λ c. sym (left c.before.before ∙ hit _ (eq-eqb _ _ c.if-place-ticket.true)))
+    (λ c. sym (left c.before.before ∙ miss _ (ne_eqb _ _ c.if-place-ticket.false))))

@@ -9,14 +9,14 @@ use native.Mathlib.Omega.{arith}
 use Rattle.queue_record.proofs.tally.waiting_count.Statement.{statement}
 use Rattle.queue_record.proofs.tally.waiting_count.Tie as tie
 
-abbrev invariant-loop : tie.invariant-loop
-invariant-loop selection slots count₀ i₀ count i = (count + waiting_of selection (occupied i (drop i slots)) ≡ waiting_of selection (occupied 0 slots)) × (count ≤ i)
+abbrev invariant-loop-i : tie.invariant-loop-i
+invariant-loop-i selection slots count₀ i₀ count i = (count + waiting_of selection (occupied i (drop i slots)) ≡ waiting_of selection (occupied 0 slots)) × (count ≤ i)
 
-abbrev decreases-loop : tie.decreases-loop
-decreases-loop selection slots count₀ i₀ count i = length slots - i
+abbrev decreases-loop-i : tie.decreases-loop-i
+decreases-loop-i selection slots count₀ i₀ count i = length slots - i
 
 -- what is asked, as seen from behind the call or the loop
-abbrev asked : tie.At-loop invariant-loop decreases-loop → tie.Start invariant-loop decreases-loop
+abbrev asked : tie.At-loop-i invariant-loop-i decreases-loop-i → tie.Start invariant-loop-i decreases-loop-i
 asked c = c.before.before
 
 pub waiting_count_spec : {M : Type 1} → statement M
@@ -24,8 +24,8 @@ unfolding waiting_of
 waiting_count_spec =
     tie.close
     (tie.spec
-    invariant-loop
-    decreases-loop
+    invariant-loop-i
+    decreases-loop-i
     (λ c. (omega arith, omega arith))
     (λ c. search rules)
     (λ c. search rules)
@@ -33,27 +33,27 @@ waiting_count_spec =
     (λ c.
     omega (
       arith,
-      c.slot-share.ensures,
-      share_small (asked c.before.before.before).args.selection c.before.before.before.loop.i
-          (get_or (asked c.before.before.before).args.slots.now c.before.before.before.loop.i 0),
-      c.before.before.before.loop.invariant.1,
+      c.slot_share-count.ensures,
+      share_small c.args.selection c.loop-i.i
+          (get_or c.args.slots.now c.loop-i.i 0),
+      c.loop-i.invariant.1,
     ))
     (λ c. search rules)
     (λ c. search rules)
     (λ c. (
       omega (
         arith,
-        c.slot-share.ensures,
-        tally_step (asked c.before.before.before).args.selection
-            (asked c.before.before.before).args.slots.now c.before.before.before.loop.i c.before.before.loop-test.true,
-        c.before.before.before.loop.invariant.0,
+        c.slot_share-count.ensures,
+        tally_step c.args.selection
+            c.args.slots.now c.loop-i.i c.loop-i-test.true,
+        c.loop-i.invariant.0,
       ),
       omega (
         arith,
-        c.slot-share.ensures,
-        share_small (asked c.before.before.before).args.selection c.before.before.before.loop.i
-            (get_or (asked c.before.before.before).args.slots.now c.before.before.before.loop.i 0),
-        c.before.before.before.loop.invariant.1,
+        c.slot_share-count.ensures,
+        share_small c.args.selection c.loop-i.i
+            (get_or c.args.slots.now c.loop-i.i 0),
+        c.loop-i.invariant.1,
       ),
     ))
-    (λ c. omega (arith, tally_end (asked c.before).args.selection (asked c.before).args.slots.now c.before.loop.i c.loop-test.false, c.before.loop.invariant.0)))
+    (λ c. omega (arith, tally_end c.args.selection c.args.slots.now c.loop-i.i c.loop-i-test.false, c.loop-i.invariant.0)))

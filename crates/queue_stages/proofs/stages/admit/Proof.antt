@@ -16,16 +16,16 @@ use Rattle.queue_stages.proofs.stages.admit.Statement.{statement}
 use Rattle.queue_stages.proofs.stages.admit.Tie as tie
 
 -- behind the check: the record that is asked, which is well formed
-abbrev asked : tie.Else1 → Queue
-asked c = c.before.before.before.args.q
+abbrev asked : tie.Else-not-well_formed → Queue
+asked c = c.args.q
 
-passed : (c : tie.Else1) → not (well_formed (asked c)) ≡ false
-passed c = negated c.before.well-formed-2.ensures c.if1.false
+passed : (c : tie.Else-not-well_formed) → not (well_formed (asked c)) ≡ false
+passed c = negated c.well_formed-2.ensures c.if-not-well_formed.false-raw
 
-within : (c : tie.Else1) → (asked c).bound ≤ 16
-within c = (fit (asked c) (sym c.before.well-formed-2.ensures ∙ not-false _ c.if1.false)).given.bound
+within : (c : tie.Else-not-well_formed) → (asked c).bound ≤ 16
+within c = (fit (asked c) (sym c.well_formed-2.ensures ∙ not-false _ c.if-not-well_formed.false-raw)).given.bound
 
-abbrev to1 : tie.After-same-set → tie.Else1
+abbrev to1 : tie.After-same_set-matched → tie.Else-not-well_formed
 to1 c = c.before.before.before
 
 pub admit_spec : {M : Type 1} → statement M
@@ -35,7 +35,7 @@ admit_spec =
     (tie.spec
     (λ c κs. search rules)
     (λ c κs. search rules)
-    (λ c. c.stage-refused.ensures ∙ sym (hit _ (negated c.before.before.well-formed-2.ensures c.before.if1.true)))
+    (λ c. c.stage_refused.ensures ∙ sym (hit _ (negated c.well_formed-2.ensures c.if-not-well_formed.true-raw)))
     (λ c.
     let q = asked c.before in
     let l : length q.bindings ≡ 16 = search rules in
@@ -48,4 +48,4 @@ admit_spec =
     sym (length-take-le q.bound q.bindings (omega arith)))
     (λ c κs. search rules)
     (λ c κs. search rules)
-    (λ c. c.admit-by.ensures ∙ (ap (admitted_by (asked (to1 c.before))) c.before.same_set.ensures.0 ∙ sym (miss _ (passed (to1 c.before))))))
+    (λ c. c.admit_by.ensures ∙ (ap (admitted_by (asked (to1 c.before))) c.same_set-matched.ensures.0 ∙ sym (miss _ (passed (to1 c.before))))))

@@ -17,5 +17,5 @@ admit_by_spec =
     (λ c κs. search rules)
     (λ c κs. search rules)
     (λ c.
-    staged_by (c.before.say.ensures ∙ ap yes_or_no (c.before.before.pending.ensures ∙ ap is_pending c.before.before.before.after-admit.ensures))
-    (c.move-to.ensures ∙ ap (with_phase c.before.before.before.before.args.q) c.before.before.before.after-admit.ensures)))
+    staged_by (c.say-answer.ensures ∙ ap yes_or_no (c.pending.ensures ∙ ap is_pending c.after_admit-phase.ensures))
+    (c.move_to-after.ensures ∙ ap (with_phase c.args.q) c.after_admit-phase.ensures)))

@@ -13,6 +13,6 @@ admit_without_spec =
     (tie.spec
     (λ c κs. search rules)
     (λ c κs. search rules)
-    (λ c. c.stage-refused.ensures ∙ sym (hit _ (negated c.before.before.well-formed-2.ensures c.before.if1.true)))
+    (λ c. c.stage_refused.ensures ∙ sym (hit _ (negated c.well_formed-2.ensures c.if-not-well_formed.true-raw)))
     (λ c κs. search rules)
-    (λ c. c.admit-by.ensures ∙ sym (miss _ (negated c.before.before.well-formed-2.ensures c.before.if1.false))))
+    (λ c. c.admit_by.ensures ∙ sym (miss _ (negated c.well_formed-2.ensures c.if-not-well_formed.false-raw))))

@@ -10,5 +10,5 @@ after_admit_spec =
     tie.close
     (tie.spec
     (λ c κs. search rules)
-    (λ c. c.next-phase.ensures ∙ sym (hit _ c.before.if1.true))
-    (λ c. sym (miss _ c.if1.false)))
+    (λ c. c.next_phase.ensures ∙ sym (hit _ c.if-matched.true))
+    (λ c. sym (miss _ c.if-matched.false)))

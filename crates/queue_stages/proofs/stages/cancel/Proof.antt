@@ -16,11 +16,11 @@ abbrev as_done : Queue → CancelAnswer
 as_done q = record { answer = Cancelled.Done; queue = q }
 
 -- behind the check: the record that is asked, which is well formed
-abbrev asked : tie.Else1 → Queue
-asked c = c.before.before.args.q
+abbrev asked : tie.Else-not-well_formed → Queue
+asked c = c.args.q
 
-passed : (c : tie.Else1) → not (well_formed (asked c)) ≡ false
-passed c = negated c.before.well-formed-2.ensures c.if1.false
+passed : (c : tie.Else-not-well_formed) → not (well_formed (asked c)) ≡ false
+passed c = negated c.well_formed-2.ensures c.if-not-well_formed.false-raw
 
 pub cancel_spec : {M : Type 1} → statement M
 unfolding cancelled_by
@@ -28,7 +28,7 @@ cancel_spec =
     tie.close
     (tie.spec
     (λ c κs. search rules)
-    (λ c. sym (hit _ (negated c.before.well-formed-2.ensures c.if1.true)))
+    (λ c. sym (hit _ (negated c.well_formed-2.ensures c.if-not-well_formed.true-raw)))
     (λ c κs. search rules)
     (λ c κs. search rules)
-    (λ c. ap as_done (c.move-to.ensures ∙ ap (with_phase (asked c.before.before)) c.before.next-phase.ensures) ∙ sym (miss _ (passed c.before.before))))
+    (λ c. ap as_done (c.move_to-after.ensures ∙ ap (with_phase (asked c.before.before)) c.next_phase.ensures) ∙ sym (miss _ (passed c.before.before))))

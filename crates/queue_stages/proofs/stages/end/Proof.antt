@@ -13,13 +13,13 @@ use Rattle.queue_stages.proofs.stages.end.Statement.{statement}
 use Rattle.queue_stages.proofs.stages.end.Tie as tie
 
 -- behind the check: the record that is asked, which is well formed
-abbrev asked : tie.Else1 → Queue
-asked c = c.before.before.args.q
+abbrev asked : tie.Else-not-well_formed → Queue
+asked c = c.args.q
 
-passed : (c : tie.Else1) → not (well_formed (asked c)) ≡ false
-passed c = negated c.before.well-formed-2.ensures c.if1.false
+passed : (c : tie.Else-not-well_formed) → not (well_formed (asked c)) ≡ false
+passed c = negated c.well_formed-2.ensures c.if-not-well_formed.false-raw
 
-abbrev to1 : tie.After-next-phase → tie.Else1
+abbrev to1 : tie.After-next_phase → tie.Else-not-well_formed
 to1 c = c.before.before.before
 
 pub end_spec : {M : Type 1} → statement M
@@ -29,12 +29,12 @@ end_spec =
     (tie.spec
     (λ c κs. search rules)
     (λ c κs. search rules)
-    (λ c. c.stage-refused.ensures ∙ sym (hit _ (negated c.before.before.well-formed-2.ensures c.before.if1.true)))
+    (λ c. c.stage_refused.ensures ∙ sym (hit _ (negated c.well_formed-2.ensures c.if-not-well_formed.true-raw)))
     (λ c κs. search rules)
     (λ c κs. search rules)
     (λ c κs. search rules)
     (λ c κs. search rules)
     (λ c.
-    staged_by (c.before.before.say.ensures ∙ ap yes_or_no c.before.before.before.pending.ensures)
-    (c.move-to.ensures ∙ ap (with_phase (asked (to1 c.before))) c.before.next-phase.ensures)
+    staged_by (c.say-answer.ensures ∙ ap yes_or_no c.pending.ensures)
+    (c.move_to-after.ensures ∙ ap (with_phase (asked (to1 c.before))) c.next_phase.ensures)
     ∙ sym (miss _ (passed (to1 c.before)))))

@@ -13,5 +13,5 @@ answer_spec =
     (λ c. search rules)
     (λ c. search rules)
     (λ c κs. search rules)
-    (λ c. c.select.ensures ∙ sym (hit _ (eq-eqb _ _ c.before.if1.true)))
-    (λ c. sym (miss _ (ne_eqb _ _ c.if1.false))))
+    (λ c. c.select.ensures ∙ sym (hit _ (eq-eqb _ _ c.if-outcome-eq0.true)))
+    (λ c. sym (miss _ (ne_eqb _ _ c.if-outcome-eq0.false))))

@@ -16,39 +16,39 @@ use Rattle.queue_steps.proofs.attempts.complete.Statement.{statement}
 use Rattle.queue_steps.proofs.attempts.complete.Tie as tie
 
 -- behind the check: what is asked, of a record that is well formed
-abbrev start : tie.Else1 → tie.Start
+abbrev start : tie.Else-not-well_formed → tie.Start
 start c = c.before.before
 
-abbrev asked : tie.Else1 → Queue
-asked c = (start c).args.q
+abbrev asked : tie.Else-not-well_formed → Queue
+asked c = c.args.q
 
-sound : (c : tie.Else1) → well_formed (asked c) ≡ true
-sound c = sym c.before.well-formed-2.ensures ∙ not-false _ c.if1.false
+sound : (c : tie.Else-not-well_formed) → well_formed (asked c) ≡ true
+sound c = sym c.well_formed-2.ensures ∙ not-false _ c.if-not-well_formed.false-raw
 
-abbrev refusal : tie.Else1 → ℕ
-refusal c = refusal_in (asked c) (start c).args.ticket (start c).args.outcome (start c).args.kept
+abbrev refusal : tie.Else-not-well_formed → ℕ
+refusal c = refusal_in (asked c) c.args.ticket c.args.outcome c.args.kept
 
 -- behind the decision: the call by a decided number
-abbrev as_completed : tie.Else1 → ℕ → CompleteAnswer
-as_completed c = completed_by (asked c) (start c).args.ticket (start c).args.outcome (start c).args.kept
+abbrev as_completed : tie.Else-not-well_formed → ℕ → CompleteAnswer
+as_completed c = completed_by (asked c) c.args.ticket c.args.outcome c.args.kept
 
-decided : (c : tie.After-complete-refusal)
-    → completed (asked c.before) (start c.before).args.ticket (start c.before).args.outcome (start c.before).args.kept
-    ≡ as_completed c.before c.complete-refusal.result
+decided : (c : tie.After-complete_refusal-refusal)
+    → completed (asked c.before) c.args.ticket c.args.outcome c.args.kept
+    ≡ as_completed c.before c.complete_refusal-refusal.result
 unfolding completed
 decided c =
-    miss _ (negated c.before.before.well-formed-2.ensures c.before.if1.false)
-    ∙ ap (as_completed c.before) (sym c.complete-refusal.ensures)
+    miss _ (negated c.well_formed-2.ensures c.if-not-well_formed.false-raw)
+    ∙ ap (as_completed c.before) (sym c.complete_refusal-refusal.ensures)
 
 -- where nothing refuses it: the ticket names one of the 64 slots
-fine : (c : tie.Else2) → refusal c.before.before ≡ 0
-fine c = sym c.before.complete-refusal.ensures ∙ c.if2.false
+fine : (c : tie.Else-refusal-ne0) → refusal c.before.before ≡ 0
+fine c = sym c.complete_refusal-refusal.ensures ∙ c.if-refusal-ne0.false
 
-in_place : (c : tie.Else2) → (start c.before.before).args.ticket.token < 64
+in_place : (c : tie.Else-refusal-ne0) → c.args.ticket.token < 64
 in_place c =
     let e = c.before.before in
     selected_below (asked e) _ (sound e)
-    (out_selected (asked e).issued (asked e).selection _ (complete_fine _ _ (start e).args.ticket _ _ (fine c)).out)
+    (out_selected (asked e).issued (asked e).selection _ (complete_fine _ _ e.args.ticket _ _ (fine c)).out)
 
 abbrev settled : Queue → CompleteAnswer
 settled q = record { answer = Settled; queue = q }
@@ -60,9 +60,9 @@ complete_spec =
     (tie.spec
     (λ c κs. search rules)
     (λ c κs. search rules)
-    (λ c. c.complete_refused.ensures ∙ sym (hit _ (negated c.before.before.well-formed-2.ensures c.before.if1.true)))
+    (λ c. c.complete_refused.ensures ∙ sym (hit _ (negated c.well_formed-2.ensures c.if-not-well_formed.true-raw)))
     (λ c κs. search rules)
     (λ c κs. search rules)
-    (λ c. c.complete-refused2.ensures ∙ sym (decided c.before.before ∙ miss _ (ne_eqb _ _ c.before.if2.true)))
+    (λ c. c.complete_refused-then-refusal-ne0.ensures ∙ sym (decided c.before.before ∙ miss _ (ne_eqb _ _ c.if-refusal-ne0.true)))
     (λ c κs. in_place c)
-    (λ c. ap settled c.answer.ensures ∙ sym (decided c.before.before ∙ hit _ (eq-eqb _ _ c.before.if2.false))))
+    (λ c. ap settled c.answer-after.ensures ∙ sym (decided c.before.before ∙ hit _ (eq-eqb _ _ c.if-refusal-ne0.false))))

@@ -10,4 +10,4 @@ hand_out_spec =
     (λ c κs. search rules)
     (λ c. search rules)
     (λ c. search rules)
-    (λ c. rw (c.select.ensures)))
+    (λ c. rw (c.select-after.ensures)))

@@ -22,59 +22,59 @@ use Rattle.queue_steps.proofs.attempts.pop.Statement.{statement}
 use Rattle.queue_steps.proofs.attempts.pop.Tie as tie
 
 -- behind the check: the record that is asked, which is well formed
-abbrev asked : tie.Else1 → Queue
-asked c = c.before.before.args.q
+abbrev asked : tie.Else-not-well_formed → Queue
+asked c = c.args.q
 
-sound : (c : tie.Else1) → well_formed (asked c) ≡ true
-sound c = sym c.before.well-formed-2.ensures ∙ not-false _ c.if1.false
+sound : (c : tie.Else-not-well_formed) → well_formed (asked c) ≡ true
+sound c = sym c.well_formed-2.ensures ∙ not-false _ c.if-not-well_formed.false-raw
 
-within : (c : tie.Else1) → (asked c).count ≤ length (asked c).slots
+within : (c : tie.Else-not-well_formed) → (asked c).count ≤ length (asked c).slots
 within c = tokens_within (asked c) (sound c) (search rules)
 
 -- behind the search, and behind the decision
-abbrev to1 : tie.After-seek → tie.Else1
+abbrev to1 : tie.After-seek-found → tie.Else-not-well_formed
 to1 c = c.before.before.before
 
-abbrev to_seek : tie.After-pop-due → tie.After-seek
+abbrev to_seek : tie.After-pop_due-due → tie.After-seek-found
 to_seek c = c.before.before.before
 
-abbrev own : tie.After-pop-due → Queue
+abbrev own : tie.After-pop_due-due → Queue
 own c = asked (to1 (to_seek c))
 
 abbrev by_number : Queue → Found → ℕ → Due
 by_number q found number = pop_due q.issued q.failed q.selection found number q.domain q.next
 
 -- the tokens' slots are all that the search rules
-found : (c : tie.After-seek) → c.seek.result ≡ sought (asked (to1 c)).selection (asked (to1 c)).slots
-found c = let q = asked (to1 c) in c.seek.ensures ∙ sought_issued q.selection q.count q.slots (fit q (sound (to1 c))).slots
+found : (c : tie.After-seek-found) → c.seek-found.result ≡ sought (asked (to1 c)).selection (asked (to1 c)).slots
+found c = let q = asked (to1 c) in c.seek-found.ensures ∙ sought_issued q.selection q.count q.slots (fit q (sound (to1 c))).slots
 
-decided : (c : tie.After-pop-due) → c.pop-due.result ≡ due_in (own c)
+decided : (c : tie.After-pop_due-due) → c.pop_due-due.result ≡ due_in (own c)
 decided c =
-    c.pop-due.ensures
-    ∙ (ap (by_number (own c) (to_seek c).seek.result) c.before.number-due.ensures ∙ ap (due_found (own c)) (found (to_seek c)))
+    c.pop_due-due.ensures
+    ∙ (ap (by_number (own c) c.seek-found.result) c.number_due-number.ensures ∙ ap (due_found (own c)) (found (to_seek c)))
 
-due : (c : tie.After-pop-due) {d : Due} → c.pop-due.result ≡ d → popped (own c) ≡ popped_as (own c) d
+due : (c : tie.After-pop_due-due) {d : Due} → c.pop_due-due.result ≡ d → popped (own c) ≡ popped_as (own c) d
 unfolding popped
 due c h = miss _ (ap not (sound (to1 (to_seek c)))) ∙ ap (popped_as (own c)) (sym (decided c) ∙ h)
 
 -- the ticket that is due names one of the 64 slots
-abbrev to_due : tie.After-due2 → tie.After-pop-due
-to_due c = c.before.before
+abbrev to_due : tie.In-Of → tie.After-pop_due-due
+to_due c = c.before
 
-abbrev ticket : tie.After-due2 → Ticket
-ticket c = c.due2.given.0.0
+abbrev ticket : tie.In-Of → Ticket
+ticket c = c.in-Of.ticket
 
-selected : (c : tie.After-due2) (s : Ticket) → (own (to_due c)).selection ≡ Of s → s.token < 64
+selected : (c : tie.In-Of) (s : Ticket) → (own (to_due c)).selection ≡ Of s → s.token < 64
 selected c s e = selected_below (own (to_due c)) s (sound (to1 (to_seek (to_due c)))) e
 
-in_place : (c : tie.After-due2) → (ticket c).token < 64
+in_place : (c : tie.In-Of) → (ticket c).token < 64
 in_place c =
     let q = own (to_due c) in
     let l : length q.slots ≡ 64 = search rules in
     let b : (ticket c).token < length q.slots =
-    due_below q.slots _ q.domain q.next (ticket c) c.due2.given.0.1.0 c.due2.given.0.1.1.0 q.selection
+    due_below q.slots _ q.domain q.next (ticket c) c.in-Of.number c.in-Of.next q.selection
     (λ s e. let k : s.token < 64 = selected c s e in omega arith) q.issued q.failed
-    (sym (decided (to_due c)) ∙ c.due2.given.1) in
+    (sym (decided (to_due c)) ∙ c.in-Of.is) in
     omega arith
 
 pub pop_spec : {M : Type 1} → statement M
@@ -84,7 +84,7 @@ pop_spec =
     (tie.spec
     (λ c κs. search rules)
     (λ c κs. search rules)
-    (λ c. c.pop_refused.ensures ∙ sym (hit _ (negated c.before.before.well-formed-2.ensures c.before.if1.true)))
+    (λ c. c.pop_refused.ensures ∙ sym (hit _ (negated c.well_formed-2.ensures c.if-not-well_formed.true-raw)))
     (λ c. within c.before)
     (λ c.
     let e = c.before.before in
@@ -98,7 +98,7 @@ pop_spec =
     (λ c. search rules)
     (λ c κs. search rules)
     (λ c. search rules)
-    (λ c κs. in_place c.before)
-    (λ c. c.pop-nothing.ensures ∙ sym (due c.before.before.before c.before.enum_told.given.1))
-    (λ c. c.pop-refused2.ensures ∙ sym (due c.before.before.before.before c.before.before.due.given.1))
-    (λ c. c.hand-out.ensures ∙ sym (due (to_due c.before.before) c.before.before.due2.given.1)))
+    (λ c κs. in_place c)
+    (λ c. c.pop_nothing.ensures ∙ sym (due c.before.before c.in-Nothing.is))
+    (λ c. c.pop_refused-in-Refused.ensures ∙ sym (due c.before.before c.in-Refused.is))
+    (λ c. c.hand_out.ensures ∙ sym (due (to_due c.before) c.in-Of.is)))

@@ -9,4 +9,4 @@ renew_spec =
     (tie.spec
     (λ c κs. search rules)
     (λ c. search rules)
-    (λ c. rw (c.before.select.ensures)))
+    (λ c. rw (c.select-after.ensures)))

@@ -16,31 +16,31 @@ use Rattle.queue_steps.proofs.attempts.retry.Statement.{statement}
 use Rattle.queue_steps.proofs.attempts.retry.Tie as tie
 
 -- behind the check, and behind the decision
-abbrev asked : tie.Else1 → Queue
-asked c = c.before.before.args.q
+abbrev asked : tie.Else-not-well_formed → Queue
+asked c = c.args.q
 
-sound : (c : tie.Else1) → not (well_formed (asked c)) ≡ false
-sound c = negated c.before.well-formed-2.ensures c.if1.false
+sound : (c : tie.Else-not-well_formed) → not (well_formed (asked c)) ≡ false
+sound c = negated c.well_formed-2.ensures c.if-not-well_formed.false-raw
 
-abbrev to1 : tie.After-retry-due → tie.Else1
+abbrev to1 : tie.After-retry_due-due → tie.Else-not-well_formed
 to1 c = c.before.before.before
 
-abbrev own : tie.After-retry-due → Queue
+abbrev own : tie.After-retry_due-due → Queue
 own c = asked (to1 c)
 
-due : (c : tie.After-retry-due) {d : Renewal} → c.retry-due.result ≡ d → retried (own c) ≡ retried_as (own c) d
+due : (c : tie.After-retry_due-due) {d : Renewal} → c.retry_due-due.result ≡ d → retried (own c) ≡ retried_as (own c) d
 unfolding retried
-due c h = miss _ (sound (to1 c)) ∙ ap (retried_as (own c)) (sym c.retry-due.ensures ∙ h)
+due c h = miss _ (sound (to1 c)) ∙ ap (retried_as (own c)) (sym c.retry_due-due.ensures ∙ h)
 
 -- where one is due again
-abbrev to_due : tie.After-due2 → tie.After-retry-due
-to_due c = c.before.before
+abbrev to_due : tie.In-Of → tie.After-retry_due-due
+to_due c = c.before
 
-low : (c : tie.After-due2) → c.due2.given.0.0.attempt < no_more
-low c = renewal_low _ _ _ _ (own (to_due c)).selection (sym (to_due c).retry-due.ensures ∙ c.due2.given.1)
+low : (c : tie.In-Of) → c.in-Of.ticket.attempt < no_more
+low c = renewal_low _ _ _ _ (own (to_due c)).selection (sym c.retry_due-due.ensures ∙ c.in-Of.is)
 
-abbrev again : tie.After-due2 → Queue → RetryAnswer
-again c q = record { answer = Again c.due2.given.0.0; queue = q }
+abbrev again : tie.In-Of → Queue → RetryAnswer
+again c q = record { answer = Again c.in-Of.ticket; queue = q }
 
 pub retry_spec : {M : Type 1} → statement M
 unfolding retried
@@ -49,12 +49,12 @@ retry_spec =
     (tie.spec
     (λ c κs. search rules)
     (λ c κs. search rules)
-    (λ c. c.retry_refused.ensures ∙ sym (hit _ (negated c.before.before.well-formed-2.ensures c.before.if1.true)))
+    (λ c. c.retry_refused.ensures ∙ sym (hit _ (negated c.well_formed-2.ensures c.if-not-well_formed.true-raw)))
     (λ c. search rules)
     (λ c κs. search rules)
     (λ c. search rules)
     (λ c κs. search rules)
     (λ c. search rules)
-    (λ c κs. low c.before)
-    (λ c. c.retry-refused2.ensures ∙ sym (due c.before.before.before.before c.before.before.due.given.1))
-    (λ c. let d = c.before.before in ap (again d) c.renew.ensures ∙ sym (due (to_due d) d.due2.given.1)))
+    (λ c κs. low c)
+    (λ c. c.retry_refused-in-Refused.ensures ∙ sym (due c.before.before c.in-Refused.is))
+    (λ c. let d = c.before in ap (again d) c.renew-after.ensures ∙ sym (due (to_due d) d.in-Of.is)))

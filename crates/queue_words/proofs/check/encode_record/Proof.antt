@@ -19,28 +19,28 @@ abbrev from_marks : List ℕ → Bool
 from_marks ws = marks_encode (word ws at_kind) (word ws at_selected) (word ws at_failed) (word ws at_issued) (word ws at_phase) && ticket_in ws
 
 -- ---- behind the length: the words that are asked
-abbrev asked : tie.After-words → List ℕ
-asked c = c.before.args.w.now
+abbrev asked : tie.After-words-1 → List ℕ
+asked c = c.args.w.now
 
-left1 : (c : tie.After-words) → encodes (asked c) ≡ from_marks (asked c)
+left1 : (c : tie.After-words-1) → encodes (asked c) ≡ from_marks (asked c)
 unfolding encodes
-left1 c = pass _ (eq-eqb _ _ c.words.given.0)
+left1 c = pass _ (eq-eqb _ _ c.words-1.given.0)
 
 -- ---- behind the marks, for which five words are read
-abbrev to_third : tie.After-marks-encode → tie.After-shared-slice-known3
+abbrev to_third : tie.After-marks_encode → tie.After-shared_slice_known-3-1
 to_third c = c.before.before.before
 
-abbrev third_words : tie.After-shared-slice-known3 → tie.After-words
+abbrev third_words : tie.After-shared_slice_known-3-1 → tie.After-words-1
 third_words c = c.before.before.before
 
-abbrev to_words : tie.After-marks-encode → tie.After-words
+abbrev to_words : tie.After-marks_encode → tie.After-words-1
 to_words c = third_words (to_third c)
 
-left2 : (c : tie.Else1) → encodes (asked (to_words c.before)) ≡ ticket_in (asked (to_words c.before))
-left2 c = left1 (to_words c.before) ∙ pass _ (sym c.before.marks_encode_lem.ensures ∙ not-false _ c.if1.false)
+left2 : (c : tie.Else-not-marks_encode) → encodes (asked (to_words c.before)) ≡ ticket_in (asked (to_words c.before))
+left2 c = left1 (to_words c.before) ∙ pass _ (sym c.marks_encode.ensures ∙ not-false _ c.if-not-marks_encode.false-raw)
 
 -- ---- before the ticket, for which four words are read
-abbrev to_else_lem : tie.After-shared-slice-known9 → tie.Else1
+abbrev to_else_lem : tie.After-shared_slice_known-9-1 → tie.Else-not-marks_encode
 to_else_lem c = c.before.before.before.before
 
 pub encode_record_spec : {M : Type 1} → statement M
@@ -53,10 +53,10 @@ encode_record_spec =
     (λ c. search rules)
     (λ c. search rules)
     (λ c κs. search rules)
-    (λ c. sym (left1 (to_words c.before) ∙ stop _ (sym c.before.marks_encode_lem.ensures ∙ not-true _ c.if1.true)))
+    (λ c. sym (left1 (to_words c.before) ∙ stop _ (sym c.marks_encode.ensures ∙ not-true _ c.if-not-marks_encode.true-raw)))
     (λ c. search rules)
     (λ c. search rules)
     (λ c. search rules)
     (λ c. search rules)
     (λ c κs. search rules)
-    (λ c. c.ticket_encodes_lem.ensures ∙ sym (left2 (to_else_lem c.before))))
+    (λ c. c.ticket_encodes.ensures ∙ sym (left2 (to_else_lem c.before))))

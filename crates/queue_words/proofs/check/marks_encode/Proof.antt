@@ -24,21 +24,21 @@ from_failed s = leb s.args.failed 1 && from_issued s
 abbrev from_selected : tie.Start → Bool
 from_selected s = leb s.args.selected 1 && from_failed s
 
-left1 : (c : tie.Else1) → whole c.before ≡ from_selected c.before
-left1 c = pass _ (le-leb _ _ c.if1.false)
+left1 : (c : tie.Else-kind-gt1) → whole c.before ≡ from_selected c.before
+left1 c = pass _ (le-leb _ _ c.if-kind-gt1.false)
 
-left2 : (c : tie.Else2) → whole c.before.before ≡ from_failed c.before.before
-left2 c = left1 c.before ∙ pass _ (le-leb _ _ c.if2.false)
+left2 : (c : tie.Else-selected-gt1) → whole c.before.before ≡ from_failed c.before.before
+left2 c = left1 c.before ∙ pass _ (le-leb _ _ c.if-selected-gt1.false)
 
-left3 : (c : tie.Else3) → whole c.before.before.before ≡ from_issued c.before.before.before
-left3 c = left2 c.before ∙ pass _ (le-leb _ _ c.if3.false)
+left3 : (c : tie.Else-failed-gt1) → whole c.before.before.before ≡ from_issued c.before.before.before
+left3 c = left2 c.before ∙ pass _ (le-leb _ _ c.if-failed-gt1.false)
 
 pub marks_encode_spec : {M : Type 1} → statement M
 marks_encode_spec =
     tie.close
     (tie.spec
-    (λ c. sym (stop _ (lt-leb _ _ c.if1.true)))
-    (λ c. sym (left1 c.before ∙ stop _ (lt-leb _ _ c.if2.true)))
-    (λ c. sym (left2 c.before ∙ stop _ (lt-leb _ _ c.if3.true)))
-    (λ c. sym (left3 c.before ∙ stop _ (lt-leb _ _ c.if4.true)))
-    (λ c. sym (left3 c.before ∙ pass _ (le-leb _ _ c.if4.false))))
+    (λ c. sym (stop _ (lt-leb _ _ c.if-kind-gt1.true)))
+    (λ c. sym (left1 c.before ∙ stop _ (lt-leb _ _ c.if-selected-gt1.true)))
+    (λ c. sym (left2 c.before ∙ stop _ (lt-leb _ _ c.if-failed-gt1.true)))
+    (λ c. sym (left3 c.before ∙ stop _ (lt-leb _ _ c.if-issued-gt1.true)))
+    (λ c. sym (left3 c.before ∙ pass _ (le-leb _ _ c.if-issued-gt1.false))))

@@ -12,26 +12,26 @@ use Rattle.queue_words.proofs.check.sound.Statement.{statement}
 use Rattle.queue_words.proofs.check.sound.Tie as tie
 
 -- behind the first test: the words encode a record
-abbrev asked : tie.Else1 → List ℕ
-asked c = c.before.before.args.w.now
+abbrev asked : tie.Else-not-encode_record → List ℕ
+asked c = c.args.w.now
 
-encoded : (c : tie.Else1) → is_sound (asked c) ≡ (places_fit (queue_of (asked c)) && selection_fits (queue_of (asked c)))
-encoded c = in_parts (asked c) (sym c.before.encode-record.ensures ∙ not-false _ c.if1.false)
+encoded : (c : tie.Else-not-encode_record) → is_sound (asked c) ≡ (places_fit (queue_of (asked c)) && selection_fits (queue_of (asked c)))
+encoded c = in_parts (asked c) (sym c.encode_record.ensures ∙ not-false _ c.if-not-encode_record.false-raw)
 
 -- behind the second: its places fit
-abbrev to1 : tie.Else2 → tie.Else1
+abbrev to1 : tie.Else-not-places_fit → tie.Else-not-encode_record
 to1 c = c.before.before
 
-placed : (c : tie.Else2) → places_fit (queue_of (asked (to1 c))) ≡ true
-placed c = sym c.before.places-fit.ensures ∙ not-false _ c.if2.false
+placed : (c : tie.Else-not-places_fit) → places_fit (queue_of (asked (to1 c))) ≡ true
+placed c = sym c.places_fit.ensures ∙ not-false _ c.if-not-places_fit.false-raw
 
 pub sound_spec : {M : Type 1} → statement M
 sound_spec =
     tie.close
     (tie.spec
     (λ c κs. search rules)
-    (λ c. sym (no_code c.before.before.args.w.now (sym c.before.encode-record.ensures ∙ not-true _ c.if1.true)))
+    (λ c. sym (no_code c.args.w.now (sym c.encode_record.ensures ∙ not-true _ c.if-not-encode_record.true-raw)))
     (λ c κs. search rules)
-    (λ c. sym (encoded c.before.before ∙ stop _ (sym c.before.places-fit.ensures ∙ not-true _ c.if2.true)))
+    (λ c. sym (encoded c.before.before ∙ stop _ (sym c.places_fit.ensures ∙ not-true _ c.if-not-places_fit.true-raw)))
     (λ c κs. places_few (asked (to1 c)) (placed c))
-    (λ c. c.selection-fits.ensures ∙ sym (encoded (to1 c.before) ∙ pass _ (placed c.before))))
+    (λ c. c.selection_fits.ensures ∙ sym (encoded (to1 c.before) ∙ pass _ (placed c.before))))

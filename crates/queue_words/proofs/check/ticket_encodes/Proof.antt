@@ -19,17 +19,17 @@ from_token s = eqb s.args.token 0 && eqb s.args.attempt 0
 abbrev from_domain : tie.Start → Bool
 from_domain s = eqb s.args.domain 0 && from_token s
 
-left1 : (c : tie.Else1) → whole c.before ≡ from_domain c.before
-left1 c = let a = c.before.args in ticket_free a.selected a.domain a.token a.attempt c.if1.false
+left1 : (c : tie.Else-selected-ne0) → whole c.before ≡ from_domain c.before
+left1 c = let a = c.args in ticket_free a.selected a.domain a.token a.attempt c.if-selected-ne0.false
 
-left2 : (c : tie.Else2) → whole c.before.before ≡ from_token c.before.before
-left2 c = left1 c.before ∙ pass _ (eq-eqb _ _ c.if2.false)
+left2 : (c : tie.Else-domain-ne0) → whole c.before.before ≡ from_token c.before.before
+left2 c = left1 c.before ∙ pass _ (eq-eqb _ _ c.if-domain-ne0.false)
 
 pub ticket_encodes_spec : {M : Type 1} → statement M
 ticket_encodes_spec =
     tie.close
     (tie.spec
-    (λ c. let a = c.before.args in sym (ticket_selected a.selected a.domain a.token a.attempt c.if1.true))
-    (λ c. sym (left1 c.before ∙ stop _ (ne_eqb _ _ c.if2.true)))
-    (λ c. sym (left2 c.before ∙ stop _ (ne_eqb _ _ c.if3.true)))
-    (λ c. sym (left2 c.before ∙ pass _ (eq-eqb _ _ c.if3.false))))
+    (λ c. let a = c.args in sym (ticket_selected a.selected a.domain a.token a.attempt c.if-selected-ne0.true))
+    (λ c. sym (left1 c.before ∙ stop _ (ne_eqb _ _ c.if-domain-ne0.true)))
+    (λ c. sym (left2 c.before ∙ stop _ (ne_eqb _ _ c.if-token-ne0.true)))
+    (λ c. sym (left2 c.before ∙ pass _ (eq-eqb _ _ c.if-token-ne0.false))))

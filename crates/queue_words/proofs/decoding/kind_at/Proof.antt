@@ -7,5 +7,5 @@ use Rattle.queue_words.proofs.decoding.kind_at.Tie as tie
 
 pub kind_at_spec : {M : Type 1} → statement M
 kind_at_spec = tie.close (tie.spec
-    (λ c. sym (hit _ (eq-eqb _ _ c.if1.true)))
-    (λ c. sym (miss _ (ne_eqb _ _ c.if1.false))))
+    (λ c. sym (hit _ (eq-eqb _ _ c.if-number-eq0.true)))
+    (λ c. sym (miss _ (ne_eqb _ _ c.if-number-eq0.false))))

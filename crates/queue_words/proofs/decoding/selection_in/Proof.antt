@@ -11,8 +11,8 @@ selection_in_spec =
     tie.close
     (tie.spec
     (λ c. search rules)
-    (λ c. sym (hit _ (eq-eqb _ _ c.if1.true)))
+    (λ c. sym (hit _ (eq-eqb _ _ c.if-w-eq0.true)))
     (λ c. search rules)
     (λ c. search rules)
     (λ c. search rules)
-    (λ c. sym (miss _ (ne_eqb _ _ c.before.before.before.if1.false))))
+    (λ c. sym (miss _ (ne_eqb _ _ c.if-w-eq0.false))))

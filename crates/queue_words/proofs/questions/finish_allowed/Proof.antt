@@ -15,25 +15,25 @@ use Rattle.queue_words.proofs.questions.finish_allowed.Statement.{statement}
 use Rattle.queue_words.proofs.questions.finish_allowed.Tie as tie
 
 -- behind the reading of the phase: the words that are asked, and the bindings that they lend
-abbrev start : tie.After-phase-at → tie.Start
-start c = c.before.before.before.before
+abbrev start : tie.After-phase_at-phase → tie.Start
+start c = c.before.before.before.before.before
 
-abbrev asked : tie.After-phase-at → List ℕ
-asked c = (start c).args.w.now
+abbrev asked : tie.After-phase_at-phase → List ℕ
+asked c = c.args.w.now
 
-abbrev target : tie.After-phase-at → List ℕ
-target c = (start c).args.target.now
+abbrev target : tie.After-phase_at-phase → List ℕ
+target c = c.args.target.now
 
-abbrev lent : tie.After-phase-at → List ℕ
+abbrev lent : tie.After-phase_at-phase → List ℕ
 lent c = take (at_bindings + word (asked c) at_bound - at_bindings) (drop at_bindings (asked c))
 
-own : (c : tie.After-phase-at)
-    → finishable c.before.before.selection-in.result c.phase-at.result (target c) (lent c)
+own : (c : tie.After-phase_at-phase)
+    → finishable c.selection_in-selection.result c.phase_at-phase.result (target c) (lent c)
     ≡ finishable (selection_in (asked c)) (phase_at (word (asked c) at_phase)) (target c) (committed (queue_of (asked c)))
 own c =
-    ap (λ (x : Selection). finishable x c.phase-at.result (target c) (lent c)) c.before.before.selection-in.ensures
-    ∙ (ap (λ (p : Phase). finishable (selection_in (asked c)) p (target c) (lent c)) c.phase-at.ensures
-    ∙ ap (finishable (selection_in (asked c)) (phase_at (word (asked c) at_phase)) (target c)) (committed_words (asked c) (start c).requires))
+    ap (λ (x : Selection). finishable x c.phase_at-phase.result (target c) (lent c)) c.selection_in-selection.ensures
+    ∙ (ap (λ (p : Phase). finishable (selection_in (asked c)) p (target c) (lent c)) c.phase_at-phase.ensures
+    ∙ ap (finishable (selection_in (asked c)) (phase_at (word (asked c) at_phase)) (target c)) (committed_words (asked c) c.requires))
 
 pub finish_allowed_spec : {M : Type 1} → statement M
 finish_allowed_spec =

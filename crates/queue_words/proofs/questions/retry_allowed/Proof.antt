@@ -13,15 +13,15 @@ use Rattle.queue_words.proofs.questions.retry_allowed.Statement.{statement}
 use Rattle.queue_words.proofs.questions.retry_allowed.Tie as tie
 
 -- behind the words that are lent: the words that are asked
-abbrev asked : tie.After-words → List ℕ
-asked c = c.before.before.args.w.now
+abbrev asked : tie.After-words-1 → List ℕ
+asked c = c.args.w.now
 
-abbrev by_own : tie.After-words → Selection → Bool
+abbrev by_own : tie.After-words-1 → Selection → Bool
 by_own c s = allowed_by (mark_at (word (asked c) at_failed)) (slots_in (asked c)) (word (asked c) at_next) s
 
-own : (c : tie.After-words) → by_own c c.before.selection-in.result ≡ retry_allowed (queue_of (asked c)) (selection_in (asked c))
+own : (c : tie.After-words-1) → by_own c c.selection_in-selection.result ≡ retry_allowed (queue_of (asked c)) (selection_in (asked c))
 unfolding queue_of
-own c = ap (by_own c) c.before.selection-in.ensures
+own c = ap (by_own c) c.selection_in-selection.ensures
 
 pub retry_allowed_spec : {M : Type 1} → statement M
 retry_allowed_spec =
@@ -34,4 +34,4 @@ retry_allowed_spec =
     (λ c. search rules)
     (λ c. search rules)
     (λ c κs. search rules)
-    (λ c. c.retry-allowed.ensures ∙ own c.before.before.before.before))
+    (λ c. c.retry_allowed.ensures ∙ own c.before.before.before.before.before))

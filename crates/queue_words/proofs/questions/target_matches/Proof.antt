@@ -7,8 +7,8 @@ use Rattle.queue_words.proofs.questions.target_matches.Statement.{statement}
 use Rattle.queue_words.proofs.questions.target_matches.Tie as tie
 
 -- the start, as seen from where the part is lent
-abbrev start : tie.After-same-set-arg → tie.Start
-start c = c.before.before.before.before
+abbrev start : tie.After-same_set-arg-1 → tie.Start
+start c = c.before.before.before.before.before
 
 pub target_matches_spec : {M : Type 1} → statement M
 target_matches_spec =

@@ -14,19 +14,19 @@ few : (s : tie.Start) → word s.args.w.now at_count ≤ 64
 few s = few_tokens s.args.w.now s.requires
 
 -- the start, as seen from where the part is lent
-abbrev start : tie.After-newest-place-arg → tie.Start
-start c = c.before.before.before
+abbrev start : tie.After-newest_place-arg-1 → tie.Start
+start c = c.before.before.before.before
 
 pub newest_waiting_spec : {M : Type 1} → statement M
 newest_waiting_spec =
     tie.close
     (tie.spec
     (λ c. search rules)
-    (λ c. let f = few c.before in search rules)
     (λ c. let f = few c.before.before in search rules)
-    (λ c. let f = few c.before.before in search rules)
-    (λ c. let f = few c.before.before in search rules)
+    (λ c. let f = few c.before.before.before in search rules)
+    (λ c. let f = few c.before.before.before in search rules)
+    (λ c. let f = few c.before.before.before in search rules)
     (λ c κs. search rules)
     (λ c.
     let s = start c.before in
-    c.newest-place.ensures ∙ ap newest (issued_occupied s.args.w.now s.pre)))
+    c.newest_place.ensures ∙ ap newest (issued_occupied s.args.w.now s.pre)))

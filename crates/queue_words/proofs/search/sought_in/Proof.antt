@@ -20,8 +20,8 @@ sought_in_spec =
     tie.close
     (tie.spec
     (λ c. search rules)
-    (λ c. let ws = c.before.before.args.w.now in sym (ap (by ws) (own_in ws c.if1.true)))
+    (λ c. let ws = c.args.w.now in sym (ap (by ws) (own_in ws c.if-w-ne0.true)))
     (λ c κs. search rules)
     (λ c.
-    let ws = c.before.before.before.args.w.now in
-    c.newest-waiting.ensures ∙ sym (ap (by ws) (free_in ws c.before.if1.false))))
+    let ws = c.args.w.now in
+    c.newest_waiting.ensures ∙ sym (ap (by ws) (free_in ws c.if-w-ne0.false))))

@@ -9,4 +9,4 @@ move_stage_spec =
     (tie.spec
     (λ c κs. search rules)
     (λ c κs. search rules)
-    (λ c. rw (c.before.before.put-phase.ensures, c.before.yes-word.ensures)))
+    (λ c. rw (c.put_phase.ensures, c.yes_word.ensures)))

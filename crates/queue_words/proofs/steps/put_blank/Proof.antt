@@ -10,4 +10,4 @@ put_blank_spec =
     tie.close
     (tie.spec
     (λ c κs. search rules)
-    (λ c. c.put-scope.ensures))
+    (λ c. c.put_scope.ensures))

@@ -16,5 +16,5 @@ put_phase_spec =
     (λ c. search rules)
     (λ c.
     let s = c.before in
-    ap (set s.args.queue.now at_phase) c.phase-number.ensures
+    ap (set s.args.queue.now at_phase) c.phase_number.ensures
     ∙ sym (hold_phase (held s.args.queue.now s.requires) s.args.phase).words))

@@ -9,35 +9,35 @@ use Rattle.queue_words.proofs.OpenWords.{put_more, put_all}
 use Rattle.queue_words.proofs.steps.put_run.Statement.{statement}
 use Rattle.queue_words.proofs.steps.put_run.Tie as tie
 
-abbrev invariant-loop : tie.invariant-loop
-invariant-loop queue₀ from values i₀ queue i = (i ≤ length values) × (queue ≡ paste queue₀ from values i)
+abbrev invariant-loop-i : tie.invariant-loop-i
+invariant-loop-i queue₀ from values i₀ queue i = (i ≤ length values) × (queue ≡ paste queue₀ from values i)
 
-abbrev decreases-loop : tie.decreases-loop
-decreases-loop queue₀ from values i₀ queue i = length values - i
+abbrev decreases-loop-i : tie.decreases-loop-i
+decreases-loop-i queue₀ from values i₀ queue i = length values - i
 
 pub put_run_spec : {M : Type 1} → statement M
 put_run_spec =
     tie.close
     (tie.spec
-    invariant-loop
-    decreases-loop
+    invariant-loop-i
+    decreases-loop-i
     (λ c. (omega arith, paste-zero c.args.queue.now c.args.from c.args.values.now))
     (λ c. search rules)
     (λ c. search rules)
-    (λ c. omega (arith, c.before.before.before.requires.1))
-    (λ c. omega (arith, c.before.before.before.requires.1))
-    (λ c. omega (arith, c.before.before.before.requires.1))
+    (λ c. omega (arith, c.requires.1))
+    (λ c. omega (arith, c.requires.1))
+    (λ c. omega (arith, c.requires.1))
     (λ c. search rules)
     (λ c. omega arith)
     (λ c.
     let l = c.before.before in
-    let a = l.before.args in (
+    let a = l.args in (
       omega arith,
-      rw l.loop.invariant.1
-          (put_more a.queue.now a.from a.values.now l.loop.i l.before.requires.0 l.before.requires.1
-          c.before.loop-test.true),
+      rw l.loop-i.invariant.1
+          (put_more a.queue.now a.from a.values.now l.loop-i.i l.requires.0 l.requires.1
+          c.loop-i-test.true),
     ))
     (λ c.
     let l = c.before in
-    let a = l.before.args in
-    l.loop.invariant.1 ∙ put_all a.queue.now a.from a.values.now l.loop.i l.loop.invariant.0 c.loop-test.false))
+    let a = l.args in
+    l.loop-i.invariant.1 ∙ put_all a.queue.now a.from a.values.now l.loop-i.i l.loop-i.invariant.0 c.loop-i-test.false))
