@@ -34,10 +34,8 @@ fn add_token(q: Queue, token: u64, place: u64) -> Queue
 fn one_waits(place: u64) -> Queue {
     let opened = scope(DOMAIN, 0);
     let mut queue = opened.queue;
-    let mut token: u64 = 0;
-    while token < MOST_TOKENS {
+    for token in 0..MOST_TOKENS {
         queue = add_token(queue, token, place);
-        token += 1;
     }
     queue
 }
