@@ -32,7 +32,6 @@ put_fields_spec =
     (λ c. (put_start _ _, omega arith))
     (λ c. search rules)
     (λ c. search rules)
-    (λ c. search rules)
     (λ c κs. put_room _ _ _ _ _ _ c.loop-i.invariant.0 c.loop-i-test.true c.requires)
     (λ c. search rules)
     (λ c. search rules)
