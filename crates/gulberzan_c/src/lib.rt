@@ -1,5 +1,6 @@
 // The public calls of a queue for C: the queue is words that the caller lends, checked on the way in and changed in place.
 #![tactic(auto)]
+
 mod attempts;
 mod births;
 mod naming;
