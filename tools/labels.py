@@ -298,6 +298,8 @@ def renamed(text, tree):
             new = tree.fields.get(previous[0], {}).get(plain, plain)
         elif dot and previous and previous[1] and previous[0] in tree.loops and word == "inv":
             new = "invariant"
+        elif dot and previous and previous[2].startswith(("in-", "in_")):
+            pass
         elif dot and key in FIELDS and not (text[m.start() - 2] != ")" and previous and (previous[2] == "before" or re.fullmatch(r"[cde]\d?", previous[2]))):
             pass
         elif dot and key in tree.steps and not (previous and previous[2] in ("args", "ranges", "given", "result", "proofs", "specs")) and not in_use(text, m.start()):

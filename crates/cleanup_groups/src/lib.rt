@@ -1,5 +1,6 @@
 // The public face of the groups: the record, the calls, the refusals' names and the limits. No other call is public.
 #![tactic(auto)]
+
 pub use group_check::{GetAnswer, Got, IDS, LAST_BASE, get, well_grouped};
 pub use group_endings::{CloseAnswer, Closed, remove, seal};
 pub use group_openings::{AddAnswer, Added, NewAnswer, add_iterator, add_scope, new};

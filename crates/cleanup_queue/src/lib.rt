@@ -1,6 +1,7 @@
 // The public face of a cleanup queue: the record, its check, the openings, the calls, the refusals' names and the limits. No other
 // call is public.
 #![tactic(auto)]
+
 pub use queue_births::{
     RegisterAllAnswer, RegisterAnswer, Registered, RegisteredAll, land, register, register_all,
 };

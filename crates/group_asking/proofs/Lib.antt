@@ -1,3 +1,2 @@
-pub mod Unasked
 pub mod Walk
 pub mod Domains

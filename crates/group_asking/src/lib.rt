@@ -1,5 +1,6 @@
 // What is asked of the places, one by one and in a walk.
 #![tactic(auto)]
+
 mod questions;
 mod scan;
 

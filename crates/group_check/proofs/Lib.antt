@@ -1,4 +1,2 @@
 pub mod Fit
 pub mod Spots
-pub mod Counted
-pub mod Distinct

@@ -1,5 +1,6 @@
 // Whether a group record is well formed, a group by its id, and how many are live.
 #![tactic(auto)]
+
 mod check;
 mod ids;
 mod tally;

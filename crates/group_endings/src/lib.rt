@@ -1,5 +1,6 @@
 // Closing a group and sealing the record.
 #![tactic(auto)]
+
 mod endings;
 
 pub use endings::{CloseAnswer, Closed, remove, seal};

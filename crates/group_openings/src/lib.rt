@@ -1,5 +1,6 @@
 // How groups come: a new record, and opening.
 #![tactic(auto)]
+
 mod openings;
 
 pub use openings::{AddAnswer, Added, NewAnswer, add_iterator, add_scope, is_unsealed, new};

@@ -1,5 +1,6 @@
 // The calls that ask of one group, by its id.
 #![tactic(auto)]
+
 mod by_id;
 
 pub use by_id::{

@@ -1,5 +1,6 @@
 // The group record: its parts and its setters.
 #![tactic(auto)]
+
 mod record;
 mod setters;
 

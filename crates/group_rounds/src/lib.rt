@@ -1,5 +1,6 @@
 // The retry of every failed group.
 #![tactic(auto)]
+
 mod rounds;
 
 pub use rounds::{RetryAllAnswer, retry_all};

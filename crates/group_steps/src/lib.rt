@@ -1,5 +1,6 @@
 // The steps of a group, by its id: each is the step of its queue, and no other place changes.
 #![tactic(auto)]
+
 mod attempts;
 mod births;
 mod sequences;

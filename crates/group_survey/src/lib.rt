@@ -1,5 +1,6 @@
 // The calls that ask of all live groups at once.
 #![tactic(auto)]
+
 mod whole;
 
 pub use whole::{

@@ -1,5 +1,5 @@
 -- A whole list recorded is the separate recorded registers that were taken: where they lead, its number, and how many they are
-use Prim.Native.Nat.{ℕ, suc, ◌+◌, ◌-◌, ◌<◌, ◌≤◌, min}
+use Prim.Native.Nat.{ℕ, ◌+◌, ◌-◌, ◌<◌, ◌≤◌, min}
 use mathlib.Core.Path.{◌≡◌, refl, sym, ap, ◌∙◌, subst}
 use mathlib.Core.Logic.{◌↔◌}
 use mathlib.Core.Bool.{Bool, true, false, not}
@@ -22,7 +22,7 @@ use Rattle.queue_births.specs.declared.sequences.RegisterAllAnswer.{RegisterAllA
 use Rattle.queue_births.proofs.SequenceLaws.{all_decided}
 use Rattle.cleanup_queue.specs.Answers.{registered_says}
 use Rattle.cleanup_queue.specs.Orders.{Ground, due, first_due, broken_only}
-use Rattle.cleanup_queue.specs.Runs.{Call, register, after, after_all}
+use Rattle.cleanup_queue.specs.Runs.{Call, register, after_all}
 use Rattle.cleanup_queue.specs.WholeLists.{registers_of, before_zero}
 use Rattle.cleanup_queue.proofs.ListLaws.{taken_exactly, whole_exactly}
 use Rattle.log_rows.specs.Appending.{rows_fit, free_rows}
@@ -32,7 +32,7 @@ use Rattle.log_births.specs.Sequences.{until_refused_kept, recorded_in_turn, reg
 use Rattle.log_births.proofs.SequenceLaws.{kept_of, decided_of, all_recorded}
 use Rattle.cleanup_log.proofs.RecordedNumbers.{register_recorded_number}
 use Rattle.cleanup_log.proofs.RecordedApart.{register_recorded_apart}
-use Rattle.history.specs.Histories.{Bench, bench, called, number_of, Made, no_call, one_call}
+use Rattle.history.specs.Histories.{Bench, called, number_of, Made, no_call, one_call}
 use Rattle.history.specs.ListedHistories.{stands_at, list_recorded, listed_to, list_answer, first_recorded_order, list_order}
 use Rattle.history.proofs.Written.{refused_stays, accepted_is}
 

@@ -1,18 +1,17 @@
 -- Histories with whole lists are histories: each list is the separate calls that were taken, so the set of logs is the same
-use Prim.Native.Nat.{ℕ, zero, suc, ◌+◌}
-use mathlib.Core.Path.{◌≡◌, refl, ap, ◌∙◌, subst}
+use Prim.Native.Nat.{ℕ, zero, suc}
+use mathlib.Core.Path.{◌≡◌, refl, ap, ◌∙◌}
 use mathlib.Core.Logic.{◌↔◌}
-use mathlib.Core.Bool.{Bool, true, false, ◌&&◌}
+use mathlib.Core.Bool.{Bool, true, ◌&&◌}
 use mathlib.Core.List.{List, [], ◌∷◌, ◌++◌}
 use lib.ListN.{take}
 use Rattle.choice.proofs.Ways.{pass, and_left, and_right}
-use Rattle.queue_record.specs.Refusals.{done}
-use Rattle.queue_record.specs.Openings.{Opening, opened_as}
-use Rattle.cleanup_queue.specs.Runs.{Call, register}
+use Rattle.queue_record.specs.Openings.{Opening}
+use Rattle.cleanup_queue.specs.Runs.{register}
 use Rattle.cleanup_queue.specs.WholeLists.{registers_of}
 use Rattle.log_language.specs.Readings.{every}
-use Rattle.history.specs.Histories.{Bench, bench, called, number_of, Start, History, opens, calls, Made, no_call, one_call, words_written}
-use Rattle.history.specs.Fits.{is_word, fits}
+use Rattle.history.specs.Histories.{Bench, called, Start, History, opens, calls, Made, no_call, one_call}
+use Rattle.history.specs.Fits.{is_word}
 use Rattle.history.specs.Benches.{BenchCall, call_on, words_given, Called, called_none, called_one, LeftIn}
 use Rattle.history.specs.ListedHistories.{listed_to, list_answer, ListedHistory, listed_opens, listed_calls, listed_takes}
 use Rattle.history.specs.ListedHistories.{Deed, makes_call, takes_list, words_in, Did, did_nothing, did_call, did_list, LeftListed}
@@ -37,7 +36,7 @@ registers_by (n ∷ ns) = BenchCall.register n ∷ registers_by ns
 
 made_called : {a b : Bench} (ns : List ℕ) → Made a (registers_of ns) b → Called a (registers_by ns) b
 made_called [] no_call = called_none
-made_called (n ∷ ns) (one_call z m) = called_one z (made_called ns m)
+made_called {a = a} (n ∷ ns) (one_call z m) = called_one z (made_called {a = called a (register n)} ns m)
 
 called_on : {a b c : Bench} {xs ys : List BenchCall} → Called a xs b → Called b ys c → Called a (xs ++ ys) c
 called_on called_none m = m
@@ -59,11 +58,11 @@ in_front_lem xs h m l = record { calls = xs ++ l.calls; given = every_append wor
 
 by_calls : {a b : Bench} (ds : List Deed) → Did a ds b → every words_in ds ≡ true → ByCalls a b
 by_calls [] did_nothing h = record { calls = []; given = refl; made = called_none }
-by_calls (makes_call c ∷ ds) (did_call z d) h =
-    in_front_lem (c ∷ []) (pass _ (and_left (words_given c) (every words_in ds) h)) (called_one z called_none) (by_calls ds d (and_right (words_given c) (every words_in ds) h))
-by_calls (takes_list ns ∷ ds) (did_list {a} d) h =
+by_calls {a = a} (makes_call c ∷ ds) (did_call z d) h =
+    in_front_lem (c ∷ []) (pass _ (and_left (words_given c) (every words_in ds) h)) (called_one z called_none) (by_calls {a = called a (call_on a.queue c)} ds d (and_right (words_given c) (every words_in ds) h))
+by_calls {a = a} (takes_list ns ∷ ds) (did_list d) h =
     in_front_lem (registers_by (take (list_answer a ns).taken ns)) (registers_given (list_answer a ns).taken ns (and_left (every is_word ns) (every words_in ds) h))
-    (made_called (take (list_answer a ns).taken ns) (list_made a ns)) (by_calls ds d (and_right (every is_word ns) (every words_in ds) h))
+    (made_called (take (list_answer a ns).taken ns) (list_made a ns)) (by_calls {a = listed_to a ns} ds d (and_right (every is_word ns) (every words_in ds) h))
 
 -- and back: a call is a deed
 abbrev deeds_of : List BenchCall → List Deed

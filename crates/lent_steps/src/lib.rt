@@ -1,5 +1,6 @@
 // Pop and complete by value, by way of a queue that is lent: who calls these needs no proof by hand.
 #![tactic(auto)]
+
 mod turns;
 
 ghost use Rattle.std.specs.Prelude.{◌≡◌};

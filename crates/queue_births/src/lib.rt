@@ -1,5 +1,6 @@
 // Register, land, and register of a whole list: the calls that append undo numbers.
 #![tactic(auto)]
+
 mod births;
 mod sequences;
 

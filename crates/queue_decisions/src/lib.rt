@@ -1,6 +1,7 @@
 // What each step decides, over the fields that it looks at: the refusal of a birth, how many of a list are taken, the ticket that is due,
 // the refusal of an answer, the ticket renewed. The calls by value, on words, recorded and replayed ask here; only their stores differ.
 #![tactic(auto)]
+
 mod answers;
 mod births;
 mod pops;

@@ -1,5 +1,6 @@
 // R60: pop and complete on a record that the caller lends: thin faces over the calls by value.
 #![tactic(auto)]
+
 ghost use Rattle.std.specs.Prelude.{◌≡◌};
 ghost use Rattle.queue_steps.specs.Attempts.{popped, completed};
 

@@ -1,5 +1,6 @@
 // Questions to one queue, public and for the crates above.
 #![tactic(auto)]
+
 mod questions;
 
 pub use questions::{

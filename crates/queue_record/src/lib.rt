@@ -1,6 +1,7 @@
 // The queue record: its parts, the check that answers whether it is well formed, the test for the blank queue, the openings,
 // the search for the newest waiting token, how many wait, and the record with another kind, selection or phase.
 #![tactic(auto)]
+
 mod blanks;
 mod check;
 mod limits;

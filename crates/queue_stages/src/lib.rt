@@ -1,5 +1,6 @@
 // The calls that move the stage and nothing else: admit, end, cancel.
 #![tactic(auto)]
+
 mod stages;
 
 pub use stages::{

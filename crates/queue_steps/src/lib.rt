@@ -1,5 +1,6 @@
 // The steps of an attempt: pop, complete, retry.
 #![tactic(auto)]
+
 mod attempts;
 
 pub use attempts::{

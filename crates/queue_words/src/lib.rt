@@ -1,5 +1,6 @@
 // A queue as words: their places, its parts as they stand there, the check on the way in, and what the calls share.
 #![tactic(auto)]
+
 mod check;
 mod decoding;
 pub mod layout;

@@ -1,5 +1,6 @@
 // The name of each result, for a log file or a message: 24 bytes of ASCII, with 0 behind the name.
 #![tactic(auto)]
+
 ghost use Rattle.std.specs.Prelude.{◌≡◌};
 ghost use Rattle.result_names.specs.Names.{result_text, result_length};
 

@@ -1,5 +1,6 @@
 // The stage of a queue: its phases and their table, and equality of sets of bindings.
 #![tactic(auto)]
+
 mod bindings;
 mod phases;
 

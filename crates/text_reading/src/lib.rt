@@ -1,5 +1,6 @@
 // A log's text read: the opening, then the rows.
 #![tactic(auto)]
+
 mod opening;
 mod textread;
 mod textrows;

@@ -1,5 +1,6 @@
 // The steps on words that are known to be sound: what is decided is asked of queue_decisions, and stored then.
 #![tactic(auto)]
+
 mod births;
 mod complete;
 mod openings;

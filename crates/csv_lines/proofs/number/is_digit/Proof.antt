@@ -9,5 +9,5 @@ use Rattle.csv_lines.proofs.number.is_digit.Tie as tie
 pub is_digit_spec : {M : Type 1} → statement M
 unfolding is_digit
 is_digit_spec = tie.close (tie.spec
-    (λ c. sym (stop _ (lt-leb _ _ c.if1.true)))
-    (λ c. sym (pass _ (le-leb _ _ c.if1.false))))
+    (λ c. sym (stop _ (lt-leb _ _ c.if-byte-lt48.true)))
+    (λ c. sym (pass _ (le-leb _ _ c.if-byte-lt48.false))))

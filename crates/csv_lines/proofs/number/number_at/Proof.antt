@@ -12,34 +12,34 @@ use Rattle.csv_lines.proofs.number.number_at.Statement.{statement}
 use Rattle.csv_lines.proofs.number.number_at.Tie as tie
 
 -- ---- behind the tests: what is asked, that a byte is there, and that it is a digit
-abbrev asked : tie.Else1 → tie.Start
+abbrev asked : tie.Else-text-at → tie.Start
 asked c = c.before.before
 
-abbrev to1 : tie.Else2 → tie.Else1
+abbrev to1 : tie.Else-not-is_digit → tie.Else-text-at
 to1 c = c.before.before.before
 
-byte_there : (c : tie.Else1) → leb (length (asked c).args.text.now) (asked c).args.at ≡ false
-byte_there c = lt-leb _ _ c.if1.false
+byte_there : (c : tie.Else-text-at) → leb (length c.args.text.now) c.args.at ≡ false
+byte_there c = lt-leb _ _ c.if-text-at.false
 
-digit_there : (c : tie.Else2) → is_digit (get_or (asked (to1 c)).args.text.now (asked (to1 c)).args.at 0) ≡ true
-digit_there c = sym c.before.is_digit.ensures ∙ not-false _ c.if2.false
+digit_there : (c : tie.Else-not-is_digit) → is_digit (get_or c.args.text.now c.args.at 0) ≡ true
+digit_there c = sym c.is_digit.ensures ∙ not-false _ c.if-not-is_digit.false-raw
 
 pub number_at_spec : {M : Type 1} → statement M
 unfolding number_at
 number_at_spec =
     tie.close
     (tie.spec
-    (λ c. sym (hit _ (le-leb _ _ c.if1.true)))
+    (λ c. sym (hit _ (le-leb _ _ c.if-text-at.true)))
     (λ c. search rules)
     (λ c κs. search rules)
-    (λ c. sym (miss _ (byte_there c.before.before.before) ∙ miss _ (sym c.before.is_digit.ensures ∙ not-true _ c.if2.true)))
+    (λ c. sym (miss _ (byte_there c.before.before.before) ∙ miss _ (sym c.is_digit.ensures ∙ not-true _ c.if-not-is_digit.true-raw)))
     (λ c. search rules)
-    (λ c. sym (miss _ (byte_there (to1 c.before)) ∙ (hit _ (digit_there c.before) ∙ hit _ (eq-eqb _ _ c.if3.true))))
+    (λ c. sym (miss _ (byte_there (to1 c.before)) ∙ (hit _ (digit_there c.before) ∙ hit _ (eq-eqb _ _ c.if-byte-eq48.true))))
     (λ c. search rules)
     (λ c κs. search rules)
     (λ c κs. search rules)
     (λ c.
-    let a = (asked (to1 c.before.before.before)).args in
-    c.more-digits.ensures ∙ (ap (λ d. more_digits d (a.at + 1) (drop (a.at + 1) a.text.now)) c.before.digit-of.ensures
+    let a = c.args in
+    c.more_digits.ensures ∙ (ap (λ d. more_digits d (a.at + 1) (drop (a.at + 1) a.text.now)) c.digit_of.ensures
     ∙ sym (miss _ (byte_there (to1 c.before.before.before))
-    ∙ (hit _ (digit_there c.before.before.before) ∙ miss _ (ne_eqb _ _ c.before.before.if3.false))))))
+    ∙ (hit _ (digit_there c.before.before.before) ∙ miss _ (ne_eqb _ _ c.if-byte-eq48.false))))))

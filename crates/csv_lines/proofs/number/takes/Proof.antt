@@ -12,7 +12,7 @@ use Rattle.csv_lines.proofs.number.takes.Tie as tie
 pub takes_spec : {M : Type 1} → statement M
 unfolding takes
 takes_spec = tie.close (tie.spec
-    (λ c. sym (lt-leb (c.before.args.value * 10 + c.before.args.digit) 18446744073709551615 (omega arith)))
+    (λ c. sym (lt-leb (c.args.value * 10 + c.args.digit) 18446744073709551615 (omega arith)))
     (λ c. search rules)
     (λ c. search rules)
-    (λ c. takes_left _ _ c.if1.false))
+    (λ c. takes_left _ _ c.if-value-gt1844674407370955161.false))

@@ -15,12 +15,12 @@ pub clash_spec : {M : Type 1} → statement M
 clash_spec =
     tie.close
     (tie.spec
-    (λ c. sym (stop _ (not-true c.before.before.args.place.live c.if1.true)))
+    (λ c. sym (stop _ (not-true c.args.place.live c.if-not-place.true)))
     (λ c. search rules)
     (λ c. search rules)
     (λ c κs. search rules)
     (λ c.
-    c.some-from.ensures
-    ∙ (there_from (asks_of (Holds c.before.before.before.before.args.place.id) []) c.before.before.before.before.args.from 0
-    (drop c.before.before.before.before.args.from c.before.before.before.before.args.g.places)
-    ∙ sym (pass _ (not-false c.before.before.before.before.args.place.live c.before.before.if1.false)))))
+    c.some_from.ensures
+    ∙ (there_from (asks_of (Holds c.args.place.id) []) c.args.from 0
+    (drop c.args.from c.args.g.places)
+    ∙ sym (pass _ (not-false c.args.place.live c.if-not-place.false)))))

@@ -14,9 +14,9 @@ pub sealed_fits_spec : {M : Type 1} → statement M
 sealed_fits_spec =
     tie.close
     (tie.spec
-    (λ c. sym (ap (λ (b : Bool). implies b (not (some_yes c.before.before.args.g Live []))) (not-true c.before.before.args.g.sealed c.if1.true)))
+    (λ c. sym (ap (λ (b : Bool). implies b (not (some_yes c.args.g Live []))) (not-true c.args.g.sealed c.if-not-g.true)))
     (λ c κs. search rules)
     (λ c.
     ap not c.some.ensures
-    ∙ sym (ap (λ (b : Bool). implies b (not (some_yes c.before.before.before.args.g Live [])))
-    (not-false c.before.before.before.args.g.sealed c.before.if1.false))))
+    ∙ sym (ap (λ (b : Bool). implies b (not (some_yes c.args.g Live [])))
+    (not-false c.args.g.sealed c.if-not-g.false))))

@@ -10,11 +10,11 @@ use Rattle.group_check.proofs.ids.look_up.Statement.{statement}
 use Rattle.group_check.proofs.ids.look_up.Tie as tie
 
 -- behind the check: the groups that are asked, which are well formed
-abbrev asked : tie.Else1 → Groups
-asked c = c.before.before.args.g
+abbrev asked : tie.Else-not-well_grouped → Groups
+asked c = c.args.g
 
-passed : (c : tie.Else1) → not (well_grouped (asked c)) ≡ false
-passed c = negated c.before.well-grouped.ensures c.if1.false
+passed : (c : tie.Else-not-well_grouped) → not (well_grouped (asked c)) ≡ false
+passed c = negated c.well_grouped.ensures c.if-not-well_grouped.false-raw
 
 pub look_up_spec : {M : Type 1} → statement M
 unfolding spot_of
@@ -22,9 +22,9 @@ look_up_spec =
     tie.close
     (tie.spec
     (λ c κs. search rules)
-    (λ c. sym (hit _ (negated c.before.well-grouped.ensures c.if1.true)))
+    (λ c. sym (hit _ (negated c.well_grouped.ensures c.if-not-well_grouped.true-raw)))
     (λ c κs. search rules)
     (λ c. search rules)
     (λ c. search rules)
-    (λ c. sym (miss _ (passed c.before.before.before) ∙ ap spot_at (sym c.before.before.lowest.ensures ∙ c.enum_told.given.1)))
-    (λ c. sym (miss _ (passed c.before.before.before.before) ∙ ap spot_at (sym c.before.before.before.lowest.ensures ∙ c.before.found.given.1))))
+    (λ c. sym (miss _ (passed c.before.before) ∙ ap spot_at (sym c.lowest-found.ensures ∙ c.in_default.is)))
+    (λ c. sym (miss _ (passed c.before.before) ∙ ap spot_at (sym c.lowest-found.ensures ∙ c.in-At.is))))

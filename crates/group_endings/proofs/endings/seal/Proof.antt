@@ -15,15 +15,15 @@ abbrev answered : Closed → Groups → CloseAnswer
 answered a g = record { answer = a; groups = g }
 
 -- what is asked, as seen from a refusal
-abbrev asked_refused : tie.After-gate → tie.Start
-asked_refused c = c.before.before.before
+abbrev asked_refused : tie.In-Refused → tie.Start
+asked_refused c = c.before.before
 
 -- behind the gate: the groups that are asked, which are open
-abbrev asked : tie.After-enum-told → Groups
-asked c = c.before.before.before.args.g
+abbrev asked : tie.In-Open → Groups
+asked c = c.args.g
 
-opened : (c : tie.After-enum-told) → unsealed (asked c) ≡ Open
-opened c = sym c.before.before.is-unsealed.ensures ∙ c.enum_told.given.1
+opened : (c : tie.In-Open) → unsealed (asked c) ≡ Open
+opened c = sym c.is_unsealed-gate.ensures ∙ c.in-Open.is
 
 pub seal_spec : {M : Type 1} → statement M
 unfolding sealed_in
@@ -37,14 +37,14 @@ seal_spec =
     (λ c κs. search rules)
     (λ c κs. search rules)
     (λ c.
-    c.close-refused2.ensures
+    c.close_refused-then-some.ensures
     ∙ sym (ap (sealed_by (asked c.before.before.before)) (opened c.before.before.before)
-    ∙ hit _ (sym c.before.before.some.ensures ∙ c.before.if1.true)))
+    ∙ hit _ (sym c.some.ensures ∙ c.if-some.true)))
     (λ c κs. search rules)
     (λ c.
     c.close_refused.ensures
-    ∙ sym (ap (sealed_by (asked_refused c.before.before).args.g) (sym c.before.before.before.before.is-unsealed.ensures ∙ c.before.before.gate.given.1)))
+    ∙ sym (ap (sealed_by c.args.g) (sym c.is_unsealed-gate.ensures ∙ c.in-Refused.is)))
     (λ c.
-    ap (answered _) c.sealed-of.ensures
+    ap (answered _) c.sealed_of-groups.ensures
     ∙ sym (ap (sealed_by (asked c.before.before.before)) (opened c.before.before.before)
-    ∙ miss _ (sym c.before.before.some.ensures ∙ c.before.if1.false))))
+    ∙ miss _ (sym c.some.ensures ∙ c.if-some.false))))

@@ -1,6 +1,6 @@
 -- Refused, or put in
 use mathlib.Core.Path.{◌≡◌, sym, ap, ◌∙◌}
-use lib.ListN.{length, length-map}
+use lib.ListN.{length}
 use Rattle.group_openings.specs.Openings.{room_of, added_at}
 use Rattle.group_openings.specs.declared.openings.Added.{Added}
 use Rattle.group_openings.specs.declared.openings.AddAnswer.{AddAnswer}
@@ -12,18 +12,18 @@ use Rattle.group_openings.proofs.openings.add.Statement.{statement}
 use Rattle.group_openings.proofs.openings.add.Tie as tie
 
 -- what is asked, as seen from a refusal
-abbrev asked_refused : tie.After-spot → tie.Start
-asked_refused c = c.before.before.before
+abbrev asked_refused : tie.In-Refused → tie.Start
+asked_refused c = c.before.before
 
 sixteen : (c : tie.Start) → length c.args.g.places ≡ 16
-sixteen c = simp length-map at c.well-formed.0.1.1.1.1.1.0.1.0.1
+sixteen c = search rules
 
 -- behind the search for room: what is asked, and the place that is free
-abbrev asked : tie.After-spot2 → tie.Start
-asked c = c.before.before.before
+abbrev asked : tie.In-At → tie.Start
+asked c = c.before.before
 
-free_at : (c : tie.After-spot2) → room_of (asked c).args.g ≡ Spot.At c.spot2.given.0.0
-free_at c = sym c.before.before.room.ensures ∙ c.spot2.given.1
+free_at : (c : tie.In-At) → room_of c.args.g ≡ Spot.At c.in-At.at
+free_at c = sym c.room-spot.ensures ∙ c.in-At.is
 
 abbrev answered : Added → Groups → AddAnswer
 answered a g = record { answer = a; groups = g }
@@ -36,9 +36,9 @@ add_spec =
     (λ c. search rules)
     (λ c κs. search rules)
     (λ c. search rules)
-    (λ c κs. room_below (asked c.before).args.g _ (sixteen (asked c.before)) (free_at c.before))
+    (λ c κs. room_below c.args.g _ (sixteen (asked c)) (free_at c))
     (λ c.
     c.add_refused.ensures
-    ∙ sym (ap (added_at (asked_refused c.before.before).args.g (asked_refused c.before.before).args.queue)
-    (sym c.before.before.before.before.room.ensures ∙ c.before.before.spot.given.1)))
-    (λ c. ap (answered _) c.put-new.ensures ∙ sym (ap (added_at (asked c.before.before).args.g (asked c.before.before).args.queue) (free_at c.before.before))))
+    ∙ sym (ap (added_at c.args.g c.args.queue)
+    (sym c.room-spot.ensures ∙ c.in-Refused.is)))
+    (λ c. ap (answered _) c.put_new-groups.ensures ∙ sym (ap (added_at c.args.g c.args.queue) (free_at c.before))))

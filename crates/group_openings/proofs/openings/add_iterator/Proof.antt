@@ -12,20 +12,20 @@ use Rattle.group_openings.proofs.openings.add_iterator.Statement.{statement}
 use Rattle.group_openings.proofs.openings.add_iterator.Tie as tie
 
 -- what is asked, as seen from a refusal
-abbrev asked_refused : tie.After-gate → tie.Start
-asked_refused c = c.before.before.before.before
+abbrev asked_refused : tie.In-Refused → tie.Start
+asked_refused c = c.before.before.before
 
 -- behind the gate: the groups that are asked, which are open
-abbrev start : tie.After-enum-told → tie.Start
-start c = c.before.before.before.before
+abbrev start : tie.In-Open → tie.Start
+start c = c.before.before.before
 
-abbrev asked : tie.After-enum-told → Groups
-asked c = (start c).args.g
+abbrev asked : tie.In-Open → Groups
+asked c = c.args.g
 
-unrefused : (c : tie.After-enum-told) → unsealed (asked c) ≡ Open
-unrefused c = sym c.before.before.is-unsealed.ensures ∙ c.enum_told.given.1
+unrefused : (c : tie.In-Open) → unsealed (asked c) ≡ Open
+unrefused c = sym c.is_unsealed-gate.ensures ∙ c.in-Open.is
 
-abbrev to_gate : tie.After-iterator → tie.After-enum-told
+abbrev to_gate : tie.After-iterator-opening → tie.In-Open
 to_gate c = c.before.before
 
 pub add_iterator_spec : {M : Type 1} → statement M
@@ -41,10 +41,10 @@ add_iterator_spec =
     (λ c κs. search rules)
     (λ c κs. search rules)
     (λ c.
-    let a = (asked_refused c.before.before).args in
+    let a = c.args in
     c.add_refused.ensures ∙ sym (ap (added_opening a.g (iterator_opened (next_domain a.g) 0 a.bindings.now))
-    (sym c.before.before.before.before.is-unsealed.ensures ∙ c.before.before.gate.given.1)))
+    (sym c.is_unsealed-gate.ensures ∙ c.in-Refused.is)))
     (λ c.
     let at = to_gate c.before in
-    c.add-opened.ensures ∙ (ap (λ (x : OpenAnswer). added_queue (asked at) x.queue x.answer) c.before.iterator.ensures
+    c.add_opened.ensures ∙ (ap (λ (x : OpenAnswer). added_queue (asked at) x.queue x.answer) c.iterator-opening.ensures
     ∙ sym (ap (added_opening (asked at) _) (unrefused at)))))

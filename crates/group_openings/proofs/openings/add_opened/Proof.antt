@@ -6,11 +6,11 @@ use Rattle.group_openings.proofs.openings.add_opened.Statement.{statement}
 use Rattle.group_openings.proofs.openings.add_opened.Tie as tie
 
 -- behind the answer that the opening gave: what is asked
-abbrev asked_refused : tie.After-answer → tie.Start
-asked_refused c = c.before.before.before
+abbrev asked_refused : tie.In-Refused → tie.Start
+asked_refused c = c.before.before
 
-abbrev asked : tie.After-enum-told → tie.Start
-asked c = c.before.before.before
+abbrev asked : tie.In-Open → tie.Start
+asked c = c.before.before
 
 pub add_opened_spec : {M : Type 1} → statement M
 add_opened_spec =
@@ -21,8 +21,8 @@ add_opened_spec =
     (λ c. search rules)
     (λ c κs. search rules)
     (λ c.
-    let a = (asked_refused c.before.before).args in
-    c.add_refused.ensures ∙ sym (ap (added_queue a.g a.opening.queue) c.before.before.answer.given.1))
+    let a = c.args in
+    c.add_refused.ensures ∙ sym (ap (added_queue a.g a.opening.queue) c.in-Refused.is))
     (λ c.
-    let a = (asked c.before).args in
-    c.add.ensures ∙ sym (ap (added_queue a.g a.opening.queue) c.before.enum_told.given.1)))
+    let a = c.args in
+    c.add.ensures ∙ sym (ap (added_queue a.g a.opening.queue) c.in-Open.is)))

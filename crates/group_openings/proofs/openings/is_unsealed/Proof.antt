@@ -10,6 +10,6 @@ is_unsealed_spec =
     tie.close
     (tie.spec
     (λ c κs. search rules)
-    (λ c. sym (hit _ (negated c.before.well-grouped.ensures c.if1.true)))
-    (λ c. sym (miss _ (negated c.before.before.well-grouped.ensures c.before.if1.false) ∙ hit _ c.if2.true))
-    (λ c. sym (miss _ (negated c.before.before.well-grouped.ensures c.before.if1.false) ∙ miss _ c.if2.false)))
+    (λ c. sym (hit _ (negated c.well_grouped.ensures c.if-not-well_grouped.true-raw)))
+    (λ c. sym (miss _ (negated c.well_grouped.ensures c.if-not-well_grouped.false-raw) ∙ hit _ c.if-g.true))
+    (λ c. sym (miss _ (negated c.well_grouped.ensures c.if-not-well_grouped.false-raw) ∙ miss _ c.if-g.false)))

@@ -18,7 +18,7 @@ abbrev answered : Opened → Groups → NewAnswer
 answered a g = record { answer = a; groups = g }
 
 -- behind the opening of the root: what is asked
-abbrev asked : tie.After-scope → tie.Start
+abbrev asked : tie.After-scope-opening → tie.Start
 asked c = c.before.before
 
 pub new_spec : {M : Type 1} → statement M
@@ -27,12 +27,12 @@ new_spec =
     tie.close
     (tie.spec
     (λ c κs. search rules)
-    (λ c. ap (answered _) c.empty.ensures ∙ sym (hit _ (lt-ltb _ _ c.before.if1.true)))
+    (λ c. ap (answered _) c.empty-none.ensures ∙ sym (hit _ (lt-ltb _ _ c.if-base-gt-LAST_BASE.true)))
     (λ c κs. search rules)
     (λ c κs. search rules)
-    (λ c κs. (omega arith, none_yet _ _ c.empty2.ensures))
+    (λ c κs. (omega arith, none_yet _ _ c.empty.ensures))
     (λ c.
-    ap (answered _) (c.put-new.ensures
-    ∙ (ap (λ (h : Groups). with_opened h 0 c.before.before.before.scope.result.queue) c.before.empty2.ensures
-    ∙ ap (λ (x : OpenAnswer). with_opened (empty_of (asked c.before.before.before).args.base) 0 x.queue) c.before.before.before.scope.ensures))
-    ∙ sym (miss _ (le-ltb _ _ c.before.before.before.before.if1.false))))
+    ap (answered _) (c.put_new-groups.ensures
+    ∙ (ap (λ (h : Groups). with_opened h 0 c.scope-opening.result.queue) c.empty.ensures
+    ∙ ap (λ (x : OpenAnswer). with_opened (empty_of c.args.base) 0 x.queue) c.scope-opening.ensures))
+    ∙ sym (miss _ (le-ltb _ _ c.if-base-gt-LAST_BASE.false))))

@@ -13,11 +13,11 @@ use Rattle.group_openings.proofs.openings.room.Statement.{statement}
 use Rattle.group_openings.proofs.openings.room.Tie as tie
 
 -- behind the search: the groups that are asked, and their lowest free place
-abbrev asked : tie.After-found → Groups
-asked c = c.before.before.before.args.g
+abbrev asked : tie.In-At → Groups
+asked c = c.args.g
 
-free_at : (c : tie.After-found) → first_yes (asked c) Free [] ≡ At c.found.given.0.0
-free_at c = sym c.before.before.lowest.ensures ∙ c.found.given.1
+free_at : (c : tie.In-At) → first_yes (asked c) Free [] ≡ At c.in-At.place
+free_at c = sym c.lowest-found.ensures ∙ c.in-At.is
 
 pub room_spec : {M : Type 1} → statement M
 room_spec =
@@ -26,6 +26,6 @@ room_spec =
     (λ c κs. search rules)
     (λ c. search rules)
     (λ c. search rules)
-    (λ c. sym (ap (room_at c.before.before.before.args.g) (sym c.before.before.lowest.ensures ∙ c.enum_told.given.1)))
-    (λ c. sym (ap (room_at (asked c.before.before.before)) (free_at c.before.before.before) ∙ hit _ (le-leb _ _ c.if1.true)))
-    (λ c. sym (ap (room_at (asked c.before.before.before)) (free_at c.before.before.before) ∙ miss _ (lt-leb _ _ c.if1.false))))
+    (λ c. sym (ap (room_at c.args.g) (sym c.lowest-found.ensures ∙ c.in_default.is)))
+    (λ c. sym (ap (room_at (asked c.before.before)) (free_at c.before.before) ∙ hit _ (le-leb _ _ c.if-g-ge-IDS.true)))
+    (λ c. sym (ap (room_at (asked c.before.before)) (free_at c.before.before) ∙ miss _ (lt-leb _ _ c.if-g-ge-IDS.false))))

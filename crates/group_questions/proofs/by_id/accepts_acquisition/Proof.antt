@@ -11,4 +11,4 @@ accepts_acquisition_spec =
     (tie.spec
     (λ c κs. search rules)
     (λ c κs. search rules)
-    (λ c. c.negate.ensures ∙ ap negation c.before.group-is-cancelled.ensures))
+    (λ c. c.negate.ensures ∙ ap negation c.group_is_cancelled.ensures))

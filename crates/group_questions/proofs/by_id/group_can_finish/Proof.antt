@@ -9,7 +9,7 @@ use Rattle.group_questions.proofs.by_id.group_can_finish.Statement.{statement}
 use Rattle.group_questions.proofs.by_id.group_can_finish.Tie as tie
 
 -- what is asked, as seen from behind the call or the loop
-abbrev asked : tie.After-can-finish → tie.Start
+abbrev asked : tie.After-can_finish → tie.Start
 asked c = c.before.before.before.before
 
 pub group_can_finish_spec : {M : Type 1} → statement M
@@ -20,5 +20,5 @@ group_can_finish_spec =
     (λ c κs. search rules)
     (λ c κs. search rules)
     (λ c.
-    c.told-by.ensures ∙ (ap (λ (d : Told). told_by c.before.before.before.get.result.answer d) c.before.can-finish.ensures
-    ∙ ap (λ (a : GetAnswer). told_by a.answer (can_finish_told a.queue (asked c.before).args.target.now)) c.before.before.before.get.ensures)))
+    c.told_by.ensures ∙ (ap (λ (d : Told). told_by c.get-found.result.answer d) c.can_finish.ensures
+    ∙ ap (λ (a : GetAnswer). told_by a.answer (can_finish_told a.queue c.args.target.now)) c.get-found.ensures)))

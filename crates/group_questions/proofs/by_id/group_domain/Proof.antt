@@ -16,5 +16,5 @@ group_domain_spec =
     (λ c κs. search rules)
     (λ c κs. search rules)
     (λ c.
-    c.domain-by.ensures ∙ (ap (λ (d : DomainTold). domain_by c.before.before.before.get.result.answer d) c.before.domain.ensures
-    ∙ ap (λ (a : GetAnswer). domain_by a.answer (domain_told a.queue)) c.before.before.before.get.ensures)))
+    c.domain_by.ensures ∙ (ap (λ (d : DomainTold). domain_by c.get-found.result.answer d) c.domain.ensures
+    ∙ ap (λ (a : GetAnswer). domain_by a.answer (domain_told a.queue)) c.get-found.ensures)))

@@ -16,5 +16,5 @@ group_has_failed_spec =
     (λ c κs. search rules)
     (λ c κs. search rules)
     (λ c.
-    c.told-by.ensures ∙ (ap (λ (d : Told). told_by c.before.before.before.get.result.answer d) c.before.has-failed.ensures
-    ∙ ap (λ (a : GetAnswer). told_by a.answer (has_failed_told a.queue)) c.before.before.before.get.ensures)))
+    c.told_by.ensures ∙ (ap (λ (d : Told). told_by c.get-found.result.answer d) c.has_failed.ensures
+    ∙ ap (λ (a : GetAnswer). told_by a.answer (has_failed_told a.queue)) c.get-found.ensures)))

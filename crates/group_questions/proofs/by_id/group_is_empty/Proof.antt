@@ -16,5 +16,5 @@ group_is_empty_spec =
     (λ c κs. search rules)
     (λ c κs. search rules)
     (λ c.
-    c.told-by.ensures ∙ (ap (λ (d : Told). told_by c.before.before.before.get.result.answer d) c.before.is-empty.ensures
-    ∙ ap (λ (a : GetAnswer). told_by a.answer (is_empty_told a.queue)) c.before.before.before.get.ensures)))
+    c.told_by.ensures ∙ (ap (λ (d : Told). told_by c.get-found.result.answer d) c.is_empty.ensures
+    ∙ ap (λ (a : GetAnswer). told_by a.answer (is_empty_told a.queue)) c.get-found.ensures)))

@@ -12,5 +12,5 @@ told_by_spec =
     (tie.spec
     (λ c. search rules)
     (λ c. search rules)
-    (λ c. sym (ap (λ (a : Got). told_by a c.before.before.before.args.told) c.before.answer.given.1))
-    (λ c. sym (ap (λ (a : Got). told_by a c.before.before.args.told) c.enum_told.given.1)))
+    (λ c. sym (ap (λ (a : Got). told_by a c.args.told) c.in-Refused.is))
+    (λ c. sym (ap (λ (a : Got). told_by a c.args.told) c.in-Group.is)))

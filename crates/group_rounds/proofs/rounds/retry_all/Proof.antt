@@ -13,11 +13,11 @@ retry_all_spec =
     tie.close
     (tie.spec
     (λ c κs. search rules)
-    (λ c. sym (hit _ (negated c.before.well-grouped.ensures c.if1.true)))
+    (λ c. sym (hit _ (negated c.well_grouped.ensures c.if-not-well_grouped.true-raw)))
     (λ c κs. search rules)
-    (λ c. sym (miss _ (negated c.before.before.before.well-grouped.ensures c.before.before.if1.false) ∙ hit _ (negated c.before.may-retry-all.ensures c.if2.true)))
+    (λ c. sym (miss _ (negated c.well_grouped.ensures c.if-not-well_grouped.false-raw) ∙ hit _ (negated c.may_retry_all.ensures c.if-not-may_retry_all.true-raw)))
     (λ c κs. search rules)
     (λ c.
-    ap (round_done Yes) c.renew-all.ensures
-    ∙ sym (miss _ (negated c.before.before.before.before.well-grouped.ensures c.before.before.before.if1.false)
-    ∙ miss _ (negated c.before.before.may-retry-all.ensures c.before.if2.false))))
+    ap (round_done Yes) c.renew_all-groups.ensures
+    ∙ sym (miss _ (negated c.well_grouped.ensures c.if-not-well_grouped.false-raw)
+    ∙ miss _ (negated c.may_retry_all.ensures c.if-not-may_retry_all.false-raw))))

@@ -1,7 +1,7 @@
 -- Refused, or the queue steps and is put back
 use Prim.Native.Nat.{◌<◌}
 use mathlib.Core.Path.{◌≡◌, sym, ap, ◌∙◌}
-use lib.ListN.{length, length-map}
+use lib.ListN.{length}
 use Rattle.queue_record.specs.declared.record.Queue.{Queue}
 use Rattle.queue_stages.specs.Stages.{cancelled_by}
 use Rattle.queue_stages.specs.declared.stages.Cancelled.{Cancelled}
@@ -16,20 +16,20 @@ use Rattle.group_stages.proofs.stages.cancel.Statement.{statement}
 use Rattle.group_stages.proofs.stages.cancel.Tie as tie
 
 sixteen : (c : tie.Start) → length c.args.g.places ≡ 16
-sixteen c = simp length-map at c.well-formed.0.1.1.1.1.1.0.1.0.1
+sixteen c = search rules
 
 -- behind the look_up: what was asked, and the spot that was found, which is one of the 16
-abbrev asked : tie.After-spot2 → tie.Start
-asked c = c.before.before.before
+abbrev asked : tie.In-At → tie.Start
+asked c = c.before.before
 
-found : (c : tie.After-spot2) → spot_of (asked c).args.g (asked c).args.id ≡ Spot.At c.spot2.given.0.0
-found c = sym c.before.before.look_up.ensures ∙ c.spot2.given.1
+found : (c : tie.In-At) → spot_of c.args.g c.args.id ≡ Spot.At c.in-At.at
+found c = sym c.look_up-spot.ensures ∙ c.in-At.is
 
-in_place : (c : tie.After-spot2) → c.spot2.given.0.0 < 16
+in_place : (c : tie.In-At) → c.in-At.at < 16
 in_place c = spot_below _ _ _ (sixteen (asked c)) (found c)
 
-abbrev to_spot : tie.After-queue → tie.After-spot2
-to_spot c = c.before.before.before.before
+abbrev to_spot : tie.After-queue-1 → tie.In-At
+to_spot c = c.before.before.before
 
 abbrev answered : Cancelled → Groups → GroupCancelAnswer
 answered a g = record { answer = a; groups = g }
@@ -42,12 +42,12 @@ cancel_spec =
     (λ c κs. search rules)
     (λ c. search rules)
     (λ c. search rules)
-    (λ c κs. in_place c.before)
+    (λ c κs. in_place c)
     (λ c κs. search rules)
     (λ c κs. in_place (to_spot c))
-    (λ c. sym (ap (cancelled_at c.before.before.before.before.args.g) (sym c.before.before.before.look_up.ensures ∙ c.before.spot.given.1)))
+    (λ c. sym (ap (cancelled_at c.args.g) (sym c.look_up-spot.ensures ∙ c.in-Refused.is)))
     (λ c.
-    let g = (asked (to_spot c.before)).args.g in
-    ap (answered _) c.put-queue.ensures
-    ∙ (ap (stopped_at g _) (c.before.before.cancel.ensures ∙ ap (λ (q : Queue). cancelled_by q) c.before.before.before.queue-at.ensures)
+    let g = c.args.g in
+    ap (answered _) c.put_queue-groups.ensures
+    ∙ (ap (stopped_at g _) (c.cancel-step.ensures ∙ ap (λ (q : Queue). cancelled_by q) c.queue_at.ensures)
     ∙ sym (ap (cancelled_at g) (found (to_spot c.before))))))

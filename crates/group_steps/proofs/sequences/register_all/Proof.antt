@@ -1,7 +1,7 @@
 -- Refused, or the queue takes what it can of the list and is put back
 use Prim.Native.Nat.{◌<◌}
 use mathlib.Core.Path.{◌≡◌, sym, ap, ◌∙◌}
-use lib.ListN.{length, length-map}
+use lib.ListN.{length}
 use Rattle.queue_record.specs.declared.record.Queue.{Queue}
 use Rattle.queue_births.specs.Sequences.{registered_all}
 use Rattle.queue_births.specs.declared.sequences.RegisteredAll.{RegisteredAll}
@@ -16,28 +16,28 @@ use Rattle.group_steps.proofs.sequences.register_all.Statement.{statement}
 use Rattle.group_steps.proofs.sequences.register_all.Tie as tie
 
 -- what is asked, as seen from a refusal
-abbrev asked_refused : tie.After-spot → tie.Start
-asked_refused c = c.before.before.before.before
+abbrev asked_refused : tie.In-Refused → tie.Start
+asked_refused c = c.before.before.before
 
 sixteen : (c : tie.Start) → length c.args.g.places ≡ 16
-sixteen c = simp length-map at c.well-formed.0.1.1.1.1.1.0.1.0.1
+sixteen c = search rules
 
 -- behind the look_up: what was asked, and the spot that was found, which is one of the 16
-abbrev asked : tie.After-spot2 → tie.Start
-asked c = c.before.before.before.before
+abbrev asked : tie.In-At → tie.Start
+asked c = c.before.before.before
 
-found : (c : tie.After-spot2) → spot_of (asked c).args.g (asked c).args.id ≡ Spot.At c.spot2.given.0.0
-found c = sym c.before.before.look_up.ensures ∙ c.spot2.given.1
+found : (c : tie.In-At) → spot_of c.args.g c.args.id ≡ Spot.At c.in-At.at
+found c = sym c.look_up-spot.ensures ∙ c.in-At.is
 
-in_place : (c : tie.After-spot2) → c.spot2.given.0.0 < 16
+in_place : (c : tie.In-At) → c.in-At.at < 16
 in_place c = spot_below _ _ _ (sixteen (asked c)) (found c)
 
 -- back from the queue that is put to the step, and to the spot
-abbrev to_step : tie.After-queue → tie.After-register-all
+abbrev to_step : tie.After-queue-1 → tie.After-register_all-step
 to_step c = c.before.before
 
-abbrev to_spot : tie.After-queue → tie.After-spot2
-to_spot c = (to_step c).before.before.before
+abbrev to_spot : tie.After-queue-1 → tie.In-At
+to_spot c = (to_step c).before.before
 
 abbrev answered : RegisteredAll → Groups → GroupRegisterAllAnswer
 answered a g = record { answer = a; groups = g }
@@ -50,15 +50,15 @@ register_all_spec =
     (λ c κs. search rules)
     (λ c. search rules)
     (λ c. search rules)
-    (λ c κs. in_place c.before)
+    (λ c κs. in_place c)
     (λ c κs. search rules)
     (λ c κs. in_place (to_spot c))
     (λ c.
-    let a = (asked_refused c.before).args in
-    sym (ap (registered_all_at a.g a.numbers.now) (sym c.before.before.before.look_up.ensures ∙ c.before.spot.given.1)))
+    let a = c.args in
+    sym (ap (registered_all_at a.g a.numbers.now) (sym c.look_up-spot.ensures ∙ c.in-Refused.is)))
     (λ c.
-    let a = (asked (to_spot c.before)).args in
+    let a = c.args in
     let step = to_step c.before in
-    ap (answered _) c.put-queue.ensures
-    ∙ (ap (took_at a.g _) (step.register-all.ensures ∙ ap (λ (q : Queue). registered_all q a.numbers.now) step.before.queue-at.ensures)
+    ap (answered _) c.put_queue-groups.ensures
+    ∙ (ap (took_at a.g _) (step.register_all-step.ensures ∙ ap (λ (q : Queue). registered_all q a.numbers.now) step.queue_at.ensures)
     ∙ sym (ap (registered_all_at a.g a.numbers.now) (found (to_spot c.before))))))

@@ -12,7 +12,7 @@ can_finish_spec =
     tie.close
     (tie.spec
     (λ c κs. search rules)
-    (λ c. sym (hit _ (negated c.before.well-grouped.ensures c.if1.true)))
+    (λ c. sym (hit _ (negated c.well_grouped.ensures c.if-not-well_grouped.true-raw)))
     (λ c κs. search rules)
     (λ c κs. search rules)
-    (λ c. c.say.ensures ∙ (ap yes_or_no (ap not c.before.some-from.ensures) ∙ sym (miss _ (negated c.before.before.before.well-grouped.ensures c.before.before.if1.false)))))
+    (λ c. c.say.ensures ∙ (ap yes_or_no (ap not c.some_from.ensures) ∙ sym (miss _ (negated c.well_grouped.ensures c.if-not-well_grouped.false-raw)))))

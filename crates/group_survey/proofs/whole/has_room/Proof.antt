@@ -11,7 +11,7 @@ pub has_room_spec : {M : Type 1} → statement M
 has_room_spec =
     tie.close
     (tie.spec
-    (λ c. sym (stop _ (ap not c.if1.true)))
+    (λ c. sym (stop _ (ap not c.if-g.true)))
     (λ c κs. search rules)
-    (λ c. sym (pass _ (ap not c.before.before.if1.false) ∙ stop _ (sym c.before.some.ensures ∙ not-true _ c.if2.true)))
-    (λ c. sym (pass _ (ap not c.before.before.before.if1.false) ∙ pass _ (sym c.before.before.some.ensures ∙ not-false _ c.before.if2.false))))
+    (λ c. sym (pass _ (ap not c.if-g.false) ∙ stop _ (sym c.some.ensures ∙ not-true _ c.if-not-some.true-raw)))
+    (λ c. sym (pass _ (ap not c.if-g.false) ∙ pass _ (sym c.some.ensures ∙ not-false _ c.if-not-some.false-raw))))

@@ -12,6 +12,6 @@ len_spec =
     tie.close
     (tie.spec
     (λ c κs. search rules)
-    (λ c. sym (hit _ (negated c.before.well-grouped.ensures c.if1.true)))
+    (λ c. sym (hit _ (negated c.well_grouped.ensures c.if-not-well_grouped.true-raw)))
     (λ c κs. search rules)
-    (λ c. ap (λ (n : ℕ). LenTold.Live n) c.live-count.ensures ∙ sym (miss _ (negated c.before.before.well-grouped.ensures c.before.if1.false))))
+    (λ c. ap (λ (n : ℕ). LenTold.Live n) c.live_count.ensures ∙ sym (miss _ (negated c.well_grouped.ensures c.if-not-well_grouped.false-raw))))

@@ -12,6 +12,6 @@ may_retry_all_spec =
     tie.close
     (tie.spec
     (λ c κs. search rules)
-    (λ c. sym (stop _ (sym c.before.some.ensures ∙ not-true _ c.if1.true)))
+    (λ c. sym (stop _ (sym c.some.ensures ∙ not-true _ c.if-not-some.true-raw)))
     (λ c κs. search rules)
-    (λ c. ap not c.some2.ensures ∙ sym (pass _ (sym c.before.before.some.ensures ∙ not-false _ c.before.if1.false))))
+    (λ c. ap not c.some-2.ensures ∙ sym (pass _ (sym c.some.ensures ∙ not-false _ c.if-not-some.false-raw))))

@@ -24,7 +24,7 @@ asked c = c.args.w.now
 
 left1 : (c : tie.After-words-1) → encodes (asked c) ≡ from_marks (asked c)
 unfolding encodes
-left1 c = pass _ (eq-eqb _ _ c.words-1.given.0)
+left1 c = pass _ (eq-eqb _ _ c.words-1.given)
 
 -- ---- behind the marks, for which five words are read
 abbrev to_third : tie.After-marks_encode → tie.After-shared_slice_known-3-1

@@ -56,7 +56,7 @@ abbrev slot_fits : List ℕ → Bool
 slot_fits ws = both_fit (mark_at (word ws at_failed)) (mark_at (word ws at_issued)) (word ws (at_slots + word ws at_ticket_token))
 
 at_slot : (c : tie.Else-not-ticket_fits) → selection_fits (queue_of (own c.before)) ≡ slot_fits (own c.before)
-at_slot c = let e = to_else_lem c.before in own_fits (asked e) e.if-w-eq0.false (start e).pre (told c.before (not-false _ c.if-not-ticket_fits.false-raw))
+at_slot c = let e = to_else_lem c.before in own_fits (asked e) e.if-w-eq0.false (start e).requires (told c.before (not-false _ c.if-not-ticket_fits.false-raw))
 
 pub selection_fits_spec : {M : Type 1} → statement M
 selection_fits_spec =

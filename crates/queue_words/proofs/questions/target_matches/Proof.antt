@@ -22,4 +22,4 @@ target_matches_spec =
     (λ c κs. search rules)
     (λ c.
     let s = start c.before in
-    c.same_set.ensures.0 ∙ ap (same_set s.args.target.now) (committed_words s.args.w.now s.pre)))
+    c.same_set.ensures.0 ∙ ap (same_set s.args.target.now) (committed_words s.args.w.now s.requires)))

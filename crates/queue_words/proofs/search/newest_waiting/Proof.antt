@@ -29,4 +29,4 @@ newest_waiting_spec =
     (λ c κs. search rules)
     (λ c.
     let s = start c.before in
-    c.newest_place.ensures ∙ ap newest (issued_occupied s.args.w.now s.pre)))
+    c.newest_place.ensures ∙ ap newest (issued_occupied s.args.w.now s.requires)))

@@ -15,4 +15,4 @@ grow_spec =
     (λ c. search rules)
     (λ c. search rules)
     (λ c. search rules)
-    (λ c. sym (grown_held c.before.args.queue.now c.before.requires.0 c.before.args.number c.before.requires.1).words))
+    (λ c. sym (grown_held c.args.queue.now c.requires.0 c.args.number c.requires.1).words))

@@ -18,23 +18,23 @@ use Rattle.word_steps.proofs.births.grow_landed.Tie as tie
 
 -- behind the birth: the words that are asked, the record with the birth, the phase that land moves to, and its word
 abbrev start : tie.After-grow → tie.Start
-start c = c.before.before.before.before
+start c = c.before.before.before.before.before
 
 abbrev asked : tie.After-grow → List ℕ
-asked c = (start c).args.queue.now
+asked c = c.args.queue.now
 
 abbrev born_in : tie.After-grow → Queue
-born_in c = grown (queue_of (asked c)) (start c).args.number
+born_in c = grown (queue_of (asked c)) c.args.number
 
 abbrev phase_in : tie.After-grow → Phase
 phase_in c = phase_at (word (asked c) at_phase)
 
 put : (c : tie.After-grow)
     → set (words_of (born_in c)) at_phase (phase_number (phase_after (phase_in c) Land))
-    ≡ words_of (landed_to (queue_of (asked c)) (start c).args.number)
+    ≡ words_of (landed_to (queue_of (asked c)) c.args.number)
 unfolding queue_of
 put c =
-    sym (phase_set (born_in c) (grown_held (asked c) (start c).requires.0 (start c).args.number (start c).requires.1).slots
+    sym (phase_set (born_in c) (grown_held (asked c) c.requires.0 c.args.number c.requires.1).slots
     (phase_after (phase_in c) Land))
 
 pub grow_landed_spec : {M : Type 1} → statement M
@@ -49,9 +49,9 @@ grow_landed_spec =
     (λ c. search rules)
     (λ c.
     rw (
-      c.phase-number.ensures,
-      c.before.next-phase.ensures,
-      c.before.before.grow.ensures,
-      c.before.before.before.before.phase-at.ensures,
+      c.phase_number.ensures,
+      c.next_phase.ensures,
+      c.grow.ensures,
+      c.phase_at-phase.ensures,
     )
-    (put c.before.before)))
+    (put c.before.before.before)))

@@ -26,19 +26,19 @@ decided : (c : tie.Start)
 decided c = land_by (asked c) c.requires.0 c.args.number ∙ ap (born_by (queue_of (asked c)) c.args.number (after c)) (sym c.requires.1)
 
 -- where nothing refuses it
-abbrev to1 : tie.After-grow-landed → tie.Else1
-to1 c = c.before.before.before
+abbrev to1 : tie.After-grow_landed → tie.Else-refusal-ne0
+to1 c = c.before.before.before.before
 
 pub land_by_spec : {M : Type 1} → statement M
 unfolding land_on
 land_by_spec =
     tie.close
     (tie.spec
-    (λ c. let s = c.before.before in sym (birth_no (asked s) s.requires.0 s.args.number _ _ _ (decided s) c.before.if1.true))
+    (λ c. let s = c.before.before in sym (birth_no (asked s) s.requires.0 s.args.number _ _ _ (decided s) c.if-refusal-ne0.true))
     (λ c. search rules)
-    (λ c κs. let e = c.before.before in (e.before.requires.0, land_room _ _ _ (sym e.before.requires.1 ∙ e.if1.false)))
+    (λ c κs. let e = c.before.before in (e.requires.0, land_room _ _ _ (sym e.requires.1 ∙ e.if-refusal-ne0.false)))
     (λ c.
     let e = to1 c.before in
     let s = e.before in
-    ap (exported done (answer_of 1 (word (asked s) at_count))) c.before.grow-landed.ensures
-    ∙ sym (birth_yes (asked s) s.pre.0 s.args.number _ _ _ (decided s) e.if1.left)))
+    ap (exported done (answer_of 1 (word (asked s) at_count))) c.grow_landed.ensures
+    ∙ sym (birth_yes (asked s) s.requires.0 s.args.number _ _ _ (decided s) e.if-refusal-ne0.false)))

@@ -10,16 +10,16 @@ use Rattle.word_steps.proofs.births.land_in.Statement.{statement}
 use Rattle.word_steps.proofs.births.land_in.Tie as tie
 
 -- behind the decision
-abbrev start : tie.After-land-refusal → tie.Start
-start c = c.before.before.before.before
+abbrev start : tie.After-land_refusal-refusal → tie.Start
+start c = c.before.before.before.before.before
 
-refuses : (c : tie.After-land-refusal)
-    → c.land-refusal.result
-    ≡ land_refusal (start c).args.number (phase_at (word (start c).args.queue.now at_phase)) (word (start c).args.queue.now at_count)
+refuses : (c : tie.After-land_refusal-refusal)
+    → c.land_refusal-refusal.result
+    ≡ land_refusal c.args.number (phase_at (word c.args.queue.now at_phase)) (word c.args.queue.now at_count)
 refuses c =
-    c.land-refusal.ensures
-    ∙ ap (λ (p : Phase). land_refusal (start c).args.number p (word (start c).args.queue.now at_count))
-    c.before.before.phase-at.ensures
+    c.land_refusal-refusal.ensures
+    ∙ ap (λ (p : Phase). land_refusal c.args.number p (word c.args.queue.now at_count))
+    c.phase_at.ensures
 
 pub land_in_spec : {M : Type 1} → statement M
 land_in_spec =
@@ -29,5 +29,5 @@ land_in_spec =
     (λ c κs. search rules)
     (λ c. search rules)
     (λ c κs. search rules)
-    (λ c κs. let d = c.before.before in ((start d).requires, refuses d))
+    (λ c κs. let d = c.before.before in (d.requires, refuses d))
     (λ c. search rules))

@@ -38,15 +38,15 @@ complete_by_spec =
     (tie.spec
     (λ c.
     let s = c.before.before in
-    sym (decided s ∙ (ap complete_exported (miss _ (ne_eqb _ _ c.before.if1.true))
+    sym (decided s ∙ (ap complete_exported (miss _ (ne_eqb _ _ c.if-refusal-ne0.true))
     ∙ ap (refused_on _ s.args.kept) (same_words_lem (asked s) s.requires.0))))
     (λ c κs.
     let s = c.before.before in (
       s.requires.0,
       settle_place (asked s) s.requires.0 s.args.ticket s.args.outcome s.args.kept (sym s.requires.1
-          ∙ c.before.if1.false),
+          ∙ c.if-refusal-ne0.false),
     ))
     (λ c.
     let e = c.before.before.before in
-    ap (exported done (answer_of 1 0)) c.before.settle.ensures
-    ∙ sym (decided e.before ∙ ap complete_exported (hit _ (eq-eqb _ _ e.if1.false)))))
+    ap (exported done (answer_of 1 0)) c.settle.ensures
+    ∙ sym (decided e.before ∙ ap complete_exported (hit _ (eq-eqb _ _ e.if-refusal-ne0.false)))))

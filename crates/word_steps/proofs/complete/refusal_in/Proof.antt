@@ -17,7 +17,7 @@ refusal_in_spec =
     (λ c κs. search rules)
     (λ c κs. search rules)
     (λ c.
-    let a = c.before.before.before.args in
-    c.complete-refusal.ensures
+    let a = c.args in
+    c.complete_refusal.ensures
     ∙ ap (λ (s : Selection). complete_refusal (mark_at (word a.w.now at_issued)) s a.ticket a.outcome a.kept)
-    c.before.selection-in.ensures))
+    c.selection_in.ensures))

@@ -31,7 +31,7 @@ settle_spec =
     (λ c. search rules)
     (λ c κs. search rules)
     (λ c.
-    c.deselect.ensures ∙ sym (ap words_of (hit _ (eq-eqb _ _ c.before.before.if1.true))
-    ∙ (hold_selection (took c.before.before.before) Free).words))
+    c.deselect.ensures ∙ sym (ap words_of (hit _ (eq-eqb _ _ c.if-outcome-eq0.true))
+    ∙ (hold_selection (took c.before.before.before.before) Free).words))
     (λ c. search rules)
-    (λ c. sym (ap words_of (miss _ (ne_eqb _ _ c.if1.false)) ∙ (hold_failed (took c.before) true).words)))
+    (λ c. sym (ap words_of (miss _ (ne_eqb _ _ c.if-outcome-eq0.false)) ∙ (hold_failed (took c.before.before) true).words)))

@@ -14,11 +14,11 @@ by_kind : (h : Heading) (bs : List ℕ) (k : Kind) (n : ℕ) (ws : List ℕ) →
 by_kind h bs k n ws e = subst (λ (x : Kind). OpensOn (opened_by x h.domain h.first bs) n ws) (sym e)
 
 -- behind the kind: what is asked
-abbrev asked_scope : tie.After-enum-told → tie.Start
-asked_scope c = c.before.before.before
+abbrev asked_scope : tie.In-Scope → tie.Start
+asked_scope c = c.before.before
 
-abbrev asked_iterator : tie.After-enum-told2 → tie.Start
-asked_iterator c = c.before.before.before
+abbrev asked_iterator : tie.In-Iterator → tie.Start
+asked_iterator c = c.before.before
 
 pub open_in_spec : {M : Type 1} → statement M
 open_in_spec =
@@ -30,7 +30,7 @@ open_in_spec =
     (λ c κs. search rules)
     (λ c.
     let at = c.before.before in
-    by_kind (asked_scope at).args.heading (asked_scope at).args.bindings.now _ _ _ at.enum_told.given.1 c.open-scope.ensures)
+    by_kind at.args.heading at.args.bindings.now _ _ _ at.in-Scope.is c.open_scope.ensures)
     (λ c.
     let at = c.before.before in
-    by_kind (asked_iterator at).args.heading (asked_iterator at).args.bindings.now _ _ _ at.enum-told2.given.1 c.open-iterator.ensures))
+    by_kind at.args.heading at.args.bindings.now _ _ _ at.in-Iterator.is c.open_iterator.ensures))

@@ -17,23 +17,23 @@ use Rattle.word_steps.proofs.openings.open_iterator.Statement.{statement}
 use Rattle.word_steps.proofs.openings.open_iterator.Tie as tie
 
 -- at most 16 bindings: what is opened, and its words
-abbrev given : tie.Else1 → List ℕ
-given c = c.before.before.args.bindings.now
+abbrev given : tie.Else-bound-gt-MOST_BINDINGS → List ℕ
+given c = c.args.bindings.now
 
-abbrev opened : tie.Else1 → OpenAnswer
-opened c = iterator_opened c.before.before.args.domain c.before.before.args.first (given c)
+abbrev opened : tie.Else-bound-gt-MOST_BINDINGS → OpenAnswer
+opened c = iterator_opened c.args.domain c.args.first (given c)
 
-no_refusal : (c : tie.Else1) → open_number (opened c).answer ≡ 0
+no_refusal : (c : tie.Else-bound-gt-MOST_BINDINGS) → open_number (opened c).answer ≡ 0
 unfolding iterator_opened
-no_refusal c = ap (λ (r : OpenAnswer). open_number r.answer) (miss _ (le-ltb _ _ c.if1.false))
+no_refusal c = ap (λ (r : OpenAnswer). open_number r.answer) (miss _ (le-ltb _ _ c.if-bound-gt-MOST_BINDINGS.false))
 
-stored : (c : tie.Else1)
-    → run_put (iterator_in c.before.before.args.domain c.before.before.args.first (length (given c))) at_bindings (binding_places (given c)) ≡ words_of (opened c).queue
+stored : (c : tie.Else-bound-gt-MOST_BINDINGS)
+    → run_put (iterator_in c.args.domain c.args.first (length (given c))) at_bindings (binding_places (given c)) ≡ words_of (opened c).queue
 unfolding iterator_opened
-stored c = iterator_words c.before.before.args.domain c.before.before.args.first (given c) c.if1.false
-    ∙ sym (ap (λ (r : OpenAnswer). words_of r.queue) (miss _ (le-ltb _ _ c.if1.false)))
+stored c = iterator_words c.args.domain c.args.first (given c) c.if-bound-gt-MOST_BINDINGS.false
+    ∙ sym (ap (λ (r : OpenAnswer). words_of r.queue) (miss _ (le-ltb _ _ c.if-bound-gt-MOST_BINDINGS.false)))
 
-abbrev to_else : tie.After-put-iterator → tie.Else1
+abbrev to_else : tie.After-put_iterator → tie.Else-bound-gt-MOST_BINDINGS
 to_else c = c.before.before.before
 
 pub open_iterator_spec : {M : Type 1} → statement M
@@ -43,14 +43,14 @@ open_iterator_spec =
     (tie.spec
     (λ c κs. search rules)
     (λ c. record {
-      number = sym (ap (λ (r : OpenAnswer). open_number r.answer) (hit _ (lt-ltb _ _ c.before.before.if1.true)));
-      left = c.put-blank.ensures ∙ sym (ap (λ (r : OpenAnswer). words_of r.queue) (hit _ (lt-ltb _ _ c.before.before.if1.true)));
+      number = sym (ap (λ (r : OpenAnswer). open_number r.answer) (hit _ (lt-ltb _ _ c.if-bound-gt-MOST_BINDINGS.true)));
+      left = c.put_blank.ensures ∙ sym (ap (λ (r : OpenAnswer). words_of r.queue) (hit _ (lt-ltb _ _ c.if-bound-gt-MOST_BINDINGS.true)));
     })
-    (λ c κs. c.if1.false)
+    (λ c κs. c.if-bound-gt-MOST_BINDINGS.false)
     (λ c κs. search rules)
     (λ c. record {
       number = sym (no_refusal (to_else c));
       left =
-          let base = iterator_in (to_else c).before.before.args.domain (to_else c).before.before.args.first (length (given (to_else c))) in
-          c.put-iterator.ensures ∙ (ap (λ (l : List ℕ). run_put base at_bindings l) c.before.before.places_of.ensures ∙ stored (to_else c));
+          let base = iterator_in c.args.domain c.args.first (length (given (to_else c))) in
+          c.put_iterator.ensures ∙ (ap (λ (l : List ℕ). run_put base at_bindings l) c.places_of-places.ensures ∙ stored (to_else c));
     }))

@@ -9,4 +9,4 @@ open_scope_spec =
     tie.close
     (tie.spec
     (λ c κs. search rules)
-    (λ c. record { number = refl; left = c.put-scope.ensures }))
+    (λ c. record { number = refl; left = c.put_scope.ensures }))

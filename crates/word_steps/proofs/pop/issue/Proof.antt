@@ -19,7 +19,7 @@ issue_spec =
     (λ c. search rules)
     (λ c. search rules)
     (λ c.
-    let a = c.before.before.args in
-    let selected = hold_selection (held a.queue.now c.before.before.requires.0) (Of a.ticket) in
-    rw c.select.ensures (sym (hold_issued (hold_next (hold_slot selected a.ticket.token 0 c.before.before.requires.1)
+    let a = c.args in
+    let selected = hold_selection (held a.queue.now c.requires.0) (Of a.ticket) in
+    rw c.select.ensures (sym (hold_issued (hold_next (hold_slot selected a.ticket.token 0 c.requires.1)
     a.next) true).words)))

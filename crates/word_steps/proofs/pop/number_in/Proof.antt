@@ -21,29 +21,29 @@ abbrev by_both : tie.Start → Selection → Found → ℕ
 by_both s own found = number_due own found (slots_in (asked s))
 
 -- where a ticket is ready
-abbrev start : tie.After-known-told → tie.Start
-start c = c.before.before.before
+abbrev start : tie.In-Of → tie.Start
+start c = c.before
 
-own_below : (c : tie.After-known-told) → c.before.selection.given.0.0.token < 64
-own_below c = own_place (asked (start c)) (start c).requires.0 _ (sym (start c).requires.1 ∙ c.before.selection.given.1)
+own_below : (c : tie.In-Of) → c.in-Of.ready.token < 64
+own_below c = own_place (asked (start c)) c.requires.0 _ (sym c.requires.1 ∙ c.in-Of.is)
 
 -- where nothing is selected
-abbrev freed : tie.After-enum-told → tie.Start
-freed c = c.before.before
+abbrev freed : tie.In_default → tie.Start
+freed c = c.before
 
-free : (c : tie.After-enum-told) {found : Found} → (freed c).args.found ≡ found
-    → by_both (freed c) (freed c).args.selection (freed c).args.found ≡ by_both (freed c) Free found
+free : (c : tie.In_default) {found : Found} → c.args.found ≡ found
+    → by_both (freed c) c.args.selection c.args.found ≡ by_both (freed c) Free found
 free c e =
-    ap (λ (s : Selection). by_both (freed c) s (freed c).args.found) c.enum_told.given.1
+    ap (λ (s : Selection). by_both (freed c) s c.args.found) c.in_default.is
     ∙ ap (by_both (freed c) Free) e
 
-abbrev to_free : tie.After-known-told2 → tie.After-enum-told
-to_free c = c.before.before.before
+abbrev to_free : tie.In-At → tie.In_default
+to_free c = c.before
 
-found_below : (c : tie.After-known-told2) → c.before.found.given.0.0 < 64
+found_below : (c : tie.In-At) → c.in-At.token < 64
 found_below c =
     let s = freed (to_free c) in
-    found_place (asked s) s.pre.0 _ (sym s.pre.2 ∙ c.before.found.given.1)
+    found_place (asked s) s.requires.0 _ (sym s.requires.2 ∙ c.in-At.is)
 
 pub number_in_spec : {M : Type 1} → statement M
 number_in_spec =
@@ -53,10 +53,10 @@ number_in_spec =
     (λ c κs. own_below c)
     (λ c.
     let s = start c.before in
-    c.slot-in.ensures ∙ sym (ap (λ (own : Selection). by_both s own s.args.found) c.before.before.selection.given.1))
+    c.slot_in.ensures ∙ sym (ap (λ (own : Selection). by_both s own s.args.found) c.in-Of.is))
     (λ c. search rules)
     (λ c. search rules)
     (λ c. search rules)
-    (λ c. sym (free c.before.before c.enum-told2.given.1))
+    (λ c. sym (free c.before c.in_default-found.is))
     (λ c κs. found_below c)
-    (λ c. c.slot-in2.ensures ∙ sym (free (to_free c.before) c.before.before.found.given.1)))
+    (λ c. c.slot_in-2.ensures ∙ sym (free (to_free c.before) c.in-At.is)))

@@ -21,14 +21,14 @@ due : (c : tie.Start) (d : Due) → c.args.due ≡ d → pop_on (asked c) ≡ po
 due c d e = pop_on_lem (asked c) c.requires.0 ∙ ap (λ (x : Due). pop_exported (popped_as (queue_of (asked c)) x)) (sym c.requires.1 ∙ e)
 
 -- where a ticket is due
-abbrev start : tie.After-due2 → tie.Start
-start c = c.before.before
+abbrev start : tie.In-Of → tie.Start
+start c = c.before
 
-own : (c : tie.After-due2)
+own : (c : tie.In-Of)
     → pop_on (asked (start c))
     ≡ pop_exported (popped_as (queue_of (asked (start c)))
-    (Due.Of c.due2.given.0.0 c.due2.given.0.1.0 c.due2.given.0.1.1.0))
-own c = due (start c) _ c.due2.given.1
+    (Due.Of c.in-Of.ticket c.in-Of.number c.in-Of.next))
+own c = due (start c) _ c.in-Of.is
 
 pub pop_by_spec : {M : Type 1} → statement M
 pop_by_spec =
@@ -38,12 +38,12 @@ pop_by_spec =
     (λ c. search rules)
     (λ c. search rules)
     (λ c κs.
-    let s = start c.before.before in
-    (s.pre.0, due_place (asked s) s.pre.0 _ _ _ (sym s.pre.1 ∙ c.before.before.due2.given.1)))
+    let s = start c.before in
+    (s.requires.0, due_place (asked s) s.requires.0 _ _ _ (sym s.requires.1 ∙ c.in-Of.is)))
     (λ c.
-    let s = c.before.before.before in
-    sym (due s _ c.before.enum_told.given.1 ∙ ap (exported done (answer_of 1 0)) (same_words_lem (asked s) s.requires.0)))
+    let s = c.before.before in
+    sym (due s _ c.in-Nothing.is ∙ ap (exported done (answer_of 1 0)) (same_words_lem (asked s) s.requires.0)))
     (λ c.
-    let s = c.before.before.before.before in
-    sym (due s _ c.before.before.due.given.1 ∙ ap (refused_on _ 0) (same_words_lem (asked s) s.requires.0)))
-    (λ c. rw (c.before.issue.ensures) (sym (own c.before.before.before.before))))
+    let s = c.before.before in
+    sym (due s _ c.in-Refused.is ∙ ap (refused_on _ 0) (same_words_lem (asked s) s.requires.0)))
+    (λ c. rw (c.issue.ensures) (sym (own c.before.before.before))))

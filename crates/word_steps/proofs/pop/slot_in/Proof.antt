@@ -12,4 +12,4 @@ slot_in_spec =
     (λ c. search rules)
     (λ c. search rules)
     (λ c. search rules)
-    (λ c. sym (slot_word c.before.args.w.now c.before.args.token c.before.requires)))
+    (λ c. sym (slot_word c.args.w.now c.args.token c.requires)))

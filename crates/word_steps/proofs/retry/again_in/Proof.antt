@@ -13,15 +13,15 @@ use Rattle.word_steps.proofs.retry.again_in.Statement.{statement}
 use Rattle.word_steps.proofs.retry.again_in.Tie as tie
 
 -- behind the words that are lent: the words that are asked
-abbrev asked : tie.After-words → List ℕ
-asked c = c.before.before.args.w.now
+abbrev asked : tie.After-words-1 → List ℕ
+asked c = c.args.w.now
 
-abbrev by_own : tie.After-words → Selection → Renewal
+abbrev by_own : tie.After-words-1 → Selection → Renewal
 by_own c s = retry_due (mark_at (word (asked c) at_failed)) s (slots_in (asked c)) (word (asked c) at_next)
 
-own : (c : tie.After-words) → by_own c c.before.selection-in.result ≡ due_again_in (queue_of (asked c))
+own : (c : tie.After-words-1) → by_own c c.selection_in-selection.result ≡ due_again_in (queue_of (asked c))
 unfolding queue_of
-own c = ap (by_own c) c.before.selection-in.ensures
+own c = ap (by_own c) c.selection_in-selection.ensures
 
 pub again_in_spec : {M : Type 1} → statement M
 again_in_spec =
@@ -34,4 +34,4 @@ again_in_spec =
     (λ c. search rules)
     (λ c. search rules)
     (λ c κs. search rules)
-    (λ c. c.retry-due.ensures ∙ own c.before.before.before.before))
+    (λ c. c.retry_due.ensures ∙ own c.before.before.before.before.before))

@@ -18,6 +18,6 @@ renew_spec =
     (λ c. search rules)
     (λ c. search rules)
     (λ c.
-    let a = c.before.before.before.args in
-    let selected = hold_selection (held a.queue.now c.before.before.before.requires.0) (Of a.ticket) in
-    rw c.before.select.ensures (sym (hold_failed (hold_next selected (a.ticket.attempt + 1)) false).words)))
+    let a = c.args in
+    let selected = hold_selection (held a.queue.now c.requires.0) (Of a.ticket) in
+    rw c.select.ensures (sym (hold_failed (hold_next selected (a.ticket.attempt + 1)) false).words)))

@@ -20,12 +20,12 @@ due : (c : tie.Start) (d : Renewal) → c.args.again ≡ d → retry_on (asked c
 due c d e = retry_on_lem (asked c) c.requires.0 ∙ ap (λ (x : Renewal). retry_exported (retried_as (queue_of (asked c)) x)) (sym c.requires.1 ∙ e)
 
 -- where one is due
-abbrev start : tie.After-again2 → tie.Start
-start c = c.before.before
+abbrev start : tie.In-Of → tie.Start
+start c = c.before
 
-own : (c : tie.After-again2)
-    → retry_on (asked (start c)) ≡ retry_exported (retried_as (queue_of (asked (start c))) (Renewal.Of c.again2.given.0.0))
-own c = due (start c) _ c.again2.given.1
+own : (c : tie.In-Of)
+    → retry_on (asked (start c)) ≡ retry_exported (retried_as (queue_of (asked (start c))) (Renewal.Of c.in-Of.ticket))
+own c = due (start c) _ c.in-Of.is
 
 pub retry_by_spec : {M : Type 1} → statement M
 retry_by_spec =
@@ -34,9 +34,9 @@ retry_by_spec =
     (λ c. search rules)
     (λ c. search rules)
     (λ c κs.
-    let s = start c.before.before in
-    (s.pre.0, again_low (asked s) _ (sym s.pre.1 ∙ c.before.before.again2.given.1)))
+    let s = start c.before in
+    (s.requires.0, again_low (asked s) _ (sym s.requires.1 ∙ c.in-Of.is)))
     (λ c.
-    let s = c.before.before.before.before in
-    sym (due s _ c.before.before.again.given.1 ∙ ap (refused_on _ 0) (same_words_lem (asked s) s.requires.0)))
-    (λ c. rw (c.before.renew.ensures) (sym (own c.before.before.before.before))))
+    let s = c.before.before in
+    sym (due s _ c.in-Refused.is ∙ ap (refused_on _ 0) (same_words_lem (asked s) s.requires.0)))
+    (λ c. rw (c.renew.ensures) (sym (own c.before.before.before))))

@@ -8,11 +8,11 @@ use Rattle.word_steps.proofs.sequences.register_all_in.Statement.{statement}
 use Rattle.word_steps.proofs.sequences.register_all_in.Tie as tie
 
 -- behind the part that is lent: what was decided, and what was asked
-abbrev to_decision : tie.After-register-all-by-arg2 → tie.After-register-taking
+abbrev to_decision : tie.After-register_all_by-arg-2-1 → tie.After-register_taking-taking
 to_decision c = c.before.before.before.before
 
-abbrev to_start : tie.After-register-taking → tie.Start
-to_start c = c.before.before.before
+abbrev to_start : tie.After-register_taking-taking → tie.Start
+to_start c = c.before.before.before.before
 
 pub register_all_in_spec : {M : Type 1} → statement M
 register_all_in_spec =
@@ -20,7 +20,7 @@ register_all_in_spec =
     (tie.spec
     (λ c. search rules)
     (λ c κs. search rules)
-    (λ c. sequence_lends _ _ _ c.before.before.register-taking.ensures _ (omega arith))
-    (λ c. sym (sequence_part _ _ _ c.before.before.before.register-taking.ensures _ (omega arith)))
-    (λ c κs. let d = to_decision c in ((to_start d).pre, part_room _ _ (to_start d).pre _ d.register-taking.ensures))
-    (λ c. let d = to_decision c.before in c.register-all-by.ensures ∙ all_from_part _ _ (to_start d).pre _ d.register-taking.ensures))
+    (λ c. sequence_lends _ _ _ c.register_taking-taking.ensures _ (omega arith))
+    (λ c. sym (sequence_part _ _ _ c.register_taking-taking.ensures _ (omega arith)))
+    (λ c κs. let d = to_decision c in (d.requires, part_room _ _ d.requires _ d.register_taking-taking.ensures))
+    (λ c. let d = to_decision c.before in c.register_all_by.ensures ∙ all_from_part _ _ d.requires _ d.register_taking-taking.ensures))
