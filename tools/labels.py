@@ -27,7 +27,8 @@ class Tree:
     def __init__(self, entry):
         self.steps, self.fields, self.needs, self.loops, self.arms = {}, {}, {}, {}, {}
         self.parent, self.new, self.arm, self.step_of = {}, {}, {}, {}
-        for (old, up, (was, now), _, parts), new, arm in zip(entry["places"], entry["places_by_name"], entry["arms"]):
+        self.firsts = {}
+        for (old, up, (was, now), called, parts), new, arm in zip(entry["places"], entry["places_by_name"], entry["arms"]):
             o = norm(old)
             self.parent.setdefault(o, norm(up) if up else None)
             self.new.setdefault(o, new)
@@ -36,6 +37,8 @@ class Tree:
             if was:
                 self.steps.setdefault(norm(was), now)
                 self.fields.setdefault(norm(was), {}).update(dict(parts))
+                if entry["params"].get(called):
+                    self.firsts.setdefault(norm(was), entry["params"][called][0])
             if arm:
                 for field, step, path in arm[2]:
                     if path:
@@ -276,6 +279,10 @@ def renamed(text, tree):
     for (step, path), (arm, field) in tree.arms.items():
         words = r"(?:" + re.escape(step).replace(r"\-", "[-_]") + r")"
         text = re.sub(r"\." + words + r"\." + r"\.".join(path) + r"(?![^\s(){}.;,@\"«»\[\]\\])", lambda m: f".{arm}.{field}", text)
+    # What a call leaves in its first parameter is named after it.
+    for step, first in tree.firsts.items():
+        words = re.escape(step).replace(r"\-", "[-_]")
+        text = re.sub(r"(\." + words + r"\.)(?:new|last)\.0(?![^\s(){}.;,@\"«»\[\]\\])", lambda m: f"{m[1]}new.{first}", text)
     out, at = [], 0
     previous = None
     for m in TOKEN.finditer(text):

@@ -9,7 +9,6 @@ use lib.ListN.{length}
 use Rattle.stage.specs.Phases.{is_pending, is_settled}
 use Rattle.choice.proofs.Ways.{miss, pass, and_left, and_right, clash}
 use Rattle.queue_record.specs.WellFormed.{well_formed}
-use Rattle.queue_record.specs.Waiting.{waiting}
 use Rattle.queue_record.specs.declared.openings.Opened.{Opened}
 use Rattle.queue_record.specs.declared.record.Queue.{Queue}
 use Rattle.queue_record.proofs.Fit.{free_no_marks}

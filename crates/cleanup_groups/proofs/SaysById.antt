@@ -7,7 +7,6 @@ use native.Mathlib.Omega.{arith}
 use Rattle.stage.specs.Phases.{is_pending, is_cancelled}
 use Rattle.choice.proofs.Ways.{if_by}
 use Rattle.queue_record.specs.WellFormed.{well_formed}
-use Rattle.queue_record.specs.declared.search.Found.TheVariants.{At}
 use Rattle.queue_record.specs.declared.record.Ticket.{Ticket}
 use Rattle.queue_record.specs.declared.record.Queue.{Queue}
 use Rattle.queue_births.specs.Births.{registered, landed}

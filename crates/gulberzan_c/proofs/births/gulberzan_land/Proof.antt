@@ -9,6 +9,6 @@ use Rattle.gulberzan_c.proofs.births.gulberzan_land.Tie as tie
 pub gulberzan_land_spec : {M : Type 1} → statement M
 gulberzan_land_spec = tie.close (tie.spec
     (λ c κs. search rules)
-    (λ c. sym (land_unsound _ _ (sym c.before.before.sound.ensures ∙ not-true _ c.before.if1.true)))
-    (λ c κs. sym c.before.before.before.sound.ensures ∙ not-false _ c.before.before.if1.false)
+    (λ c. sym (land_unsound _ _ (sym c.sound.ensures ∙ not-true _ c.if-not-sound.true-raw)))
+    (λ c κs. sym c.sound.ensures ∙ not-false _ c.if-not-sound.false-raw)
     (λ c. search rules))

@@ -23,8 +23,8 @@ abbrev to_start : tie.After-sound → tie.Start
 to_start c = c.before.before
 
 -- behind the check: the words that are asked are sound
-sure : (c : tie.Else1) → is_sound (to_start c.before).args.queue.now ≡ true
-sure c = sym c.before.sound.ensures ∙ not-false _ c.if1.false
+sure : (c : tie.Else-not-sound) → is_sound c.args.queue.now ≡ true
+sure c = sym c.sound.ensures ∙ not-false _ c.if-not-sound.false-raw
 
 pub gulberzan_can_finish_spec : {M : Type 1} → statement M
 unfolding can_finish_on can_finish_told queue_of
@@ -35,11 +35,11 @@ gulberzan_can_finish_spec =
     (λ c.
     let s = to_start c.before.before in
     sym (told_unsound _ (asks s.args.queue.now s.args.target.now)
-    (sym c.before.before.sound.ensures ∙ not-true _ c.before.if1.true)))
+    (sym c.sound.ensures ∙ not-true _ c.if-not-sound.true-raw)))
     (λ c κs. few_bindings _ (sure c))
     (λ c κs. search rules)
     (λ c.
     let at = c.before.before.before in
     let s = to_start at.before in
-    rw (c.before.yes-word.ensures, c.before.before.finish-allowed.ensures)
+    rw (c.yes_word.ensures, c.finish_allowed.ensures)
     (sym (told_sound _ (asks s.args.queue.now s.args.target.now) (sure at)))))

@@ -9,6 +9,6 @@ use Rattle.gulberzan_c.proofs.questions.gulberzan_domain.Tie as tie
 pub gulberzan_domain_spec : {M : Type 1} → statement M
 gulberzan_domain_spec = tie.close (tie.spec
     (λ c κs. search rules)
-    (λ c. sym (domain_unsound _ (sym c.before.before.sound.ensures ∙ not-true _ c.before.if1.true)))
+    (λ c. sym (domain_unsound _ (sym c.sound.ensures ∙ not-true _ c.if-not-sound.true-raw)))
     (λ c. search rules)
-    (λ c. sym (domain_sound _ (sym c.before.before.before.sound.ensures ∙ not-false _ c.before.before.if1.false))))
+    (λ c. sym (domain_sound _ (sym c.sound.ensures ∙ not-false _ c.if-not-sound.false-raw))))

@@ -21,8 +21,8 @@ abbrev to_start : tie.After-sound → tie.Start
 to_start c = c.before
 
 -- behind the check: the words that are asked are sound
-sure : (c : tie.Else1) → is_sound (to_start c.before).args.queue.now ≡ true
-sure c = sym c.before.sound.ensures ∙ not-false _ c.if1.false
+sure : (c : tie.Else-not-sound) → is_sound c.args.queue.now ≡ true
+sure c = sym c.sound.ensures ∙ not-false _ c.if-not-sound.false-raw
 
 pub gulberzan_has_failed_spec : {M : Type 1} → statement M
 unfolding has_failed_on has_failed_told queue_of
@@ -32,10 +32,10 @@ gulberzan_has_failed_spec =
     (λ c κs. search rules)
     (λ c.
     let s = to_start c.before.before in
-    sym (told_unsound _ (asks s.args.queue.now) (sym c.before.before.sound.ensures ∙ not-true _ c.before.if1.true)))
+    sym (told_unsound _ (asks s.args.queue.now) (sym c.sound.ensures ∙ not-true _ c.if-not-sound.true-raw)))
     (λ c. search rules)
     (λ c κs. search rules)
     (λ c.
-    let at = c.before.before.before in
+    let at = c.before.before.before.before in
     let s = to_start at.before in
-    rw (c.before.yes-word.ensures) (sym (told_sound _ (asks s.args.queue.now) (sure at)))))
+    rw (c.yes_word.ensures) (sym (told_sound _ (asks s.args.queue.now) (sure at)))))

@@ -21,12 +21,12 @@ asks ws = is_settled (phase_at (word ws at_phase))
 abbrev to_start : tie.After-sound → tie.Start
 to_start c = c.before
 
-abbrev to_check : tie.After-phase-at → tie.Else1
-to_check c = c.before.before
+abbrev to_check : tie.After-phase_at → tie.Else-not-sound
+to_check c = c.before.before.before
 
 -- behind the check: the words that are asked are sound
-sure : (c : tie.Else1) → is_sound (to_start c.before).args.queue.now ≡ true
-sure c = sym c.before.sound.ensures ∙ not-false _ c.if1.false
+sure : (c : tie.Else-not-sound) → is_sound c.args.queue.now ≡ true
+sure c = sym c.sound.ensures ∙ not-false _ c.if-not-sound.false-raw
 
 pub gulberzan_is_settled_spec : {M : Type 1} → statement M
 unfolding is_settled_on is_settled_told queue_of
@@ -36,7 +36,7 @@ gulberzan_is_settled_spec =
     (λ c κs. search rules)
     (λ c.
     let s = to_start c.before.before in
-    sym (told_unsound _ (asks s.args.queue.now) (sym c.before.before.sound.ensures ∙ not-true _ c.before.if1.true)))
+    sym (told_unsound _ (asks s.args.queue.now) (sym c.sound.ensures ∙ not-true _ c.if-not-sound.true-raw)))
     (λ c. search rules)
     (λ c κs. search rules)
     (λ c κs. search rules)
@@ -44,5 +44,5 @@ gulberzan_is_settled_spec =
     (λ c.
     let at = to_check c.before.before.before in
     let s = to_start at.before in
-    rw (c.before.yes-word.ensures, c.before.before.settled.ensures, c.before.before.before.phase-at.ensures)
+    rw (c.yes_word.ensures, c.settled.ensures, c.phase_at.ensures)
     (sym (told_sound _ (asks s.args.queue.now) (sure at)))))

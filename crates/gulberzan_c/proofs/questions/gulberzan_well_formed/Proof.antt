@@ -8,5 +8,5 @@ use Rattle.gulberzan_c.proofs.questions.gulberzan_well_formed.Tie as tie
 pub gulberzan_well_formed_spec : {M : Type 1} → statement M
 gulberzan_well_formed_spec = tie.close (tie.spec
     (λ c κs. search rules)
-    (λ c. sym (ap sound_number (sym c.before.sound.ensures ∙ c.if1.true)))
-    (λ c. sym (ap sound_number (sym c.before.sound.ensures ∙ c.if1.false))))
+    (λ c. sym (ap sound_number (sym c.sound.ensures ∙ c.if-sound.true)))
+    (λ c. sym (ap sound_number (sym c.sound.ensures ∙ c.if-sound.false))))

@@ -12,13 +12,13 @@ use Rattle.gulberzan_c.proofs.stages.admit_in.Statement.{statement}
 use Rattle.gulberzan_c.proofs.stages.admit_in.Tie as tie
 
 -- behind the table: what was asked, and the phase moved to
-abbrev asked : tie.After-after-admit → tie.Start
-asked c = c.before.before.before
+abbrev asked : tie.After-after_admit-phase → tie.Start
+asked c = c.before.before.before.before
 
-moved : (c : tie.After-after-admit) → c.after-admit.result ≡ after_admit (phase_in (asked c).args.queue.now) (asked c).args.matched
-moved c = c.after-admit.ensures ∙ ap (λ (p : Phase). after_admit p (asked c).args.matched) c.before.phase-at.ensures
+moved : (c : tie.After-after_admit-phase) → c.after_admit-phase.result ≡ after_admit (phase_in c.args.queue.now) c.args.matched
+moved c = c.after_admit-phase.ensures ∙ ap (λ (p : Phase). after_admit p c.args.matched) c.phase_at.ensures
 
-abbrev to_moved : tie.After-move-stage → tie.After-after-admit
+abbrev to_moved : tie.After-move_stage → tie.After-after_admit-phase
 to_moved c = c.before.before.before.before
 
 pub admit_in_spec : {M : Type 1} → statement M
@@ -32,8 +32,8 @@ admit_in_spec =
     (λ c κs. search rules)
     (λ c.
     let at = to_moved c in
-    let ws = (asked at).args.queue.now in
-    c.move-stage.ensures
-    ∙ (ap (λ (p : Phase). said_in (words_of (with_phase (queue_of ws) p)) c.before.before.pending.result) (moved at)
-    ∙ (ap (said_in _) (c.before.before.pending.ensures ∙ ap is_pending (moved at))
-    ∙ sym (admit_by_moved ws (asked at).pre (asked at).args.matched)))))
+    let ws = at.args.queue.now in
+    c.move_stage.ensures
+    ∙ (ap (λ (p : Phase). said_in (words_of (with_phase (queue_of ws) p)) c.pending.result) (moved at)
+    ∙ (ap (said_in _) (c.pending.ensures ∙ ap is_pending (moved at))
+    ∙ sym (admit_by_moved ws at.requires at.args.matched)))))

@@ -12,13 +12,13 @@ use Rattle.gulberzan_c.proofs.stages.end_in.Statement.{statement}
 use Rattle.gulberzan_c.proofs.stages.end_in.Tie as tie
 
 -- behind the table: what was asked, and the phase moved to
-abbrev asked : tie.After-next-phase → tie.Start
-asked c = c.before.before.before
+abbrev asked : tie.After-next_phase-phase → tie.Start
+asked c = c.before.before.before.before
 
-moved : (c : tie.After-next-phase) → c.next-phase.result ≡ phase_after (phase_in (asked c).args.queue.now) End
-moved c = c.next-phase.ensures ∙ ap (λ (p : Phase). phase_after p End) c.before.phase-at.ensures
+moved : (c : tie.After-next_phase-phase) → c.next_phase-phase.result ≡ phase_after (phase_in c.args.queue.now) End
+moved c = c.next_phase-phase.ensures ∙ ap (λ (p : Phase). phase_after p End) c.phase_at-was.ensures
 
-abbrev to_moved : tie.After-move-stage → tie.After-next-phase
+abbrev to_moved : tie.After-move_stage → tie.After-next_phase-phase
 to_moved c = c.before.before.before.before
 
 pub end_in_spec : {M : Type 1} → statement M
@@ -32,8 +32,8 @@ end_in_spec =
     (λ c κs. search rules)
     (λ c.
     let at = to_moved c in
-    let ws = (asked at).args.queue.now in
-    c.move-stage.ensures
-    ∙ (ap (λ (p : Phase). said_in (words_of (with_phase (queue_of ws) p)) c.before.before.pending.result) (moved at)
-    ∙ (ap (said_in _) (c.before.before.pending.ensures ∙ ap is_pending at.before.phase-at.ensures)
-    ∙ sym (end_moved ws (asked at).pre)))))
+    let ws = at.args.queue.now in
+    c.move_stage.ensures
+    ∙ (ap (λ (p : Phase). said_in (words_of (with_phase (queue_of ws) p)) c.pending.result) (moved at)
+    ∙ (ap (said_in _) (c.pending.ensures ∙ ap is_pending at.phase_at-was.ensures)
+    ∙ sym (end_moved ws at.requires)))))

@@ -13,17 +13,17 @@ use Rattle.gulberzan_c.proofs.stages.gulberzan_admit.Statement.{statement}
 use Rattle.gulberzan_c.proofs.stages.gulberzan_admit.Tie as tie
 
 abbrev to_start : tie.After-sound → tie.Start
-to_start c = c.before.before.before
+to_start c = c.before.before
 
 -- behind the check: the words that are asked are sound
-abbrev asked : tie.Else1 → List ℕ
-asked c = (to_start c.before).args.queue.now
+abbrev asked : tie.Else-not-sound → List ℕ
+asked c = c.args.queue.now
 
-sure : (c : tie.Else1) → is_sound (asked c) ≡ true
-sure c = sym c.before.sound.ensures ∙ not-false _ c.if1.false
+sure : (c : tie.Else-not-sound) → is_sound (asked c) ≡ true
+sure c = sym c.sound.ensures ∙ not-false _ c.if-not-sound.false-raw
 
-abbrev to_check : tie.After-target-matches → tie.Else1
-to_check c = c.before.before
+abbrev to_check : tie.After-target_matches-matched → tie.Else-not-sound
+to_check c = c.before
 
 pub gulberzan_admit_spec : {M : Type 1} → statement M
 unfolding admit_on
@@ -31,8 +31,8 @@ gulberzan_admit_spec =
     tie.close
     (tie.spec
     (λ c κs. search rules)
-    (λ c. sym (admit_unsound _ (sym c.before.before.sound.ensures ∙ not-true _ c.before.if1.true)
-    (to_start c.before.before).args.target.now))
-    (λ c κs. few_bindings (asked c.before) (sure c.before))
+    (λ c. sym (admit_unsound _ (sym c.sound.ensures ∙ not-true _ c.if-not-sound.true-raw)
+    c.args.target.now))
+    (λ c κs. few_bindings (asked c) (sure c))
     (λ c κs. sure (to_check c.before.before))
-    (λ c. let at = c.before.before.before in c.admit-in.ensures ∙ ap (admit_by (asked (to_check at))) at.target-matches.ensures))
+    (λ c. let at = c.before.before.before in c.admit_in.ensures ∙ ap (admit_by (asked (to_check at))) at.target_matches-matched.ensures))

@@ -11,17 +11,17 @@ use Rattle.gulberzan_c.proofs.stages.gulberzan_end.Statement.{statement}
 use Rattle.gulberzan_c.proofs.stages.gulberzan_end.Tie as tie
 
 -- behind the check: the words that are asked are sound
-abbrev asked : tie.Else1 → List ℕ
-asked c = c.before.before.before.args.queue.now
+abbrev asked : tie.Else-not-sound → List ℕ
+asked c = c.args.queue.now
 
-sure : (c : tie.Else1) → is_sound (asked c) ≡ true
-sure c = sym c.before.sound.ensures ∙ not-false _ c.if1.false
+sure : (c : tie.Else-not-sound) → is_sound (asked c) ≡ true
+sure c = sym c.sound.ensures ∙ not-false _ c.if-not-sound.false-raw
 
 pub gulberzan_end_spec : {M : Type 1} → statement M
 gulberzan_end_spec =
     tie.close
     (tie.spec
     (λ c κs. search rules)
-    (λ c. sym (end_unsound _ (sym c.before.before.sound.ensures ∙ not-true _ c.before.if1.true)))
+    (λ c. sym (end_unsound _ (sym c.sound.ensures ∙ not-true _ c.if-not-sound.true-raw)))
     (λ c κs. sure c.before.before)
-    (λ c. c.end-in.ensures))
+    (λ c. c.end_in.ensures))

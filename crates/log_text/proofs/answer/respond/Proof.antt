@@ -10,8 +10,8 @@ respond_spec = tie.close (tie.spec
     (λ c κs. search rules)
     (λ c. (
       record {
-        figures = c.before.before.figures-for.result;
-        right = c.before.before.figures-for.ensures;
+        figures = c.figures_for.result;
+        right = c.figures_for.ensures;
         counted = c.report.ensures.0;
         written = c.report.ensures.1;
       },

@@ -7,39 +7,38 @@ use native.Mathlib.Omega.{arith}
 use Rattle.log_text.proofs.report.put_fields.Statement.{statement}
 use Rattle.log_text.proofs.report.put_fields.Tie as tie
 
-abbrev invariant-loop : tie.invariant-loop
-invariant-loop out₀ from numbers at₀ i₀ t6 out at i = Put out₀ from (take i numbers) at out × (i ≤ length numbers)
+abbrev invariant-loop-i : tie.invariant-loop-i
+invariant-loop-i out₀ from numbers at₀ i₀ out at i = Put out₀ from (take i numbers) at out × (i ≤ length numbers)
 
-abbrev decreases-loop : tie.decreases-loop
-decreases-loop out₀ from numbers at₀ i₀ t6 out at i = length numbers - i
+abbrev decreases-loop-i : tie.decreases-loop-i
+decreases-loop-i out₀ from numbers at₀ i₀ out at i = length numbers - i
 
 -- ---- the loop, as seen from the call in it, and what is asked
-abbrev to_test : tie.After-put-number-arg2 invariant-loop decreases-loop → tie.In-loop invariant-loop decreases-loop
+abbrev to_test : tie.After-put_number-arg-in-loop-i-1 invariant-loop-i decreases-loop-i → tie.In-loop-i invariant-loop-i decreases-loop-i
 to_test c = c.before.before.before
 
-abbrev to_loop : tie.After-put-number-arg2 invariant-loop decreases-loop → tie.At-loop invariant-loop decreases-loop
+abbrev to_loop : tie.After-put_number-arg-in-loop-i-1 invariant-loop-i decreases-loop-i → tie.At-loop-i invariant-loop-i decreases-loop-i
 to_loop c = (to_test c).before
 
-abbrev asked : tie.At-loop invariant-loop decreases-loop → tie.Start invariant-loop decreases-loop
+abbrev asked : tie.At-loop-i invariant-loop-i decreases-loop-i → tie.Start invariant-loop-i decreases-loop-i
 asked c = c.before.before.before
 
 pub put_fields_spec : {M : Type 1} → statement M
 put_fields_spec =
     tie.close
     (tie.spec
-    invariant-loop
-    decreases-loop
+    invariant-loop-i
+    decreases-loop-i
     (λ c. (put_start _ _, omega arith))
     (λ c. search rules)
     (λ c. search rules)
-    (λ c. search rules)
-    (λ c κs. put_room _ _ _ _ _ _ (to_loop c).loop.invariant.0 (to_test c).loop-test.true (asked (to_loop c)).pre)
+    (λ c κs. put_room _ _ _ _ _ _ c.loop-i.invariant.0 c.loop-i-test.true c.requires)
     (λ c. search rules)
     (λ c. search rules)
     (λ c. (
-      put_next _ _ _ _ _ _ _ _ (to_loop c.before.before.before).loop.inv.0 (to_test c.before.before.before).loop-test.taken
-          c.before.before.put-number.ensures.0 c.before.before.put-number.ensures.1 (asked (to_loop c.before.before.before)).pre,
+      put_next _ _ _ _ _ _ _ _ c.loop-i.invariant.0 c.loop-i-test.true
+          c.put_number-at.ensures.0 c.put_number-at.ensures.1 c.requires,
       omega arith,
     ))
-    (λ c. put_length _ _ _ _ _ _ c.before.loop.invariant.0 c.before.loop.invariant.1 (asked c.before).pre)
-    (λ c. put_all _ _ _ _ _ _ c.before.loop.invariant.0 c.loop-test.false))
+    (λ c. put_length _ _ _ _ _ _ c.loop-i.invariant.0 c.loop-i.invariant.1 c.requires)
+    (λ c. put_all _ _ _ _ _ _ c.loop-i.invariant.0 c.loop-i-test.false))

@@ -5,35 +5,23 @@ use borrow.Author.Rules.{rules}
 use Rattle.log_text.proofs.report.report.Statement.{statement}
 use Rattle.log_text.proofs.report.report.Tie as tie
 
--- ---- the three parts, each as seen from the next
-abbrev asked : tie.After-put → tie.Start
-asked c = c.before.before.before.before
-
-abbrev to_names : tie.After-six → tie.After-put
-to_names c = c.before.before.before.before
-
-abbrev to_six : tie.After-put-number-arg2 → tie.After-put-fields
-to_six c = c.before.before.before.before
-
 pub report_spec : {M : Type 1} → statement M
 unfolding names
 report_spec =
     tie.close
     (tie.spec
-    (λ c. search rules)
     (λ c κs. search rules)
     (λ c. search rules)
     (λ c κs. search rules)
-    (λ c. search rules)
     (λ c κs.
-    let a = (asked (to_names (to_six c).before)).args in
-    let n = (to_names (to_six c).before).put.ensures in
-    let f = (to_six c).put-fields.ensures in
-    last_fits a.f a.out.now (asked (to_names (to_six c).before)).requires _ _ _ _ n.0 n.1 f.0 f.1)
+    let a = c.args in
+    let n = c.put-named.ensures in
+    let f = c.put_fields-last.ensures in
+    last_fits a.f a.out.now c.requires _ _ _ _ n.0 n.1 f.0 f.1)
     (λ c. search rules)
     (λ c.
-    let a = (asked (to_names (to_six c.before.before.before).before)).args in
-    let n = (to_names (to_six c.before.before.before).before).put.ensures in
-    let f = (to_six c.before.before.before).put-fields.ensures in
-    let e = c.before.before.put-number.ensures in
-    reported a.f a.out.now (asked (to_names (to_six c.before.before.before).before)).requires _ _ _ _ n.0 n.1 f.0 f.1 _ _ e.0 e.1))
+    let a = c.args in
+    let n = c.put-named.ensures in
+    let f = c.put_fields-last.ensures in
+    let e = c.put_number.ensures in
+    reported a.f a.out.now c.requires _ _ _ _ n.0 n.1 f.0 f.1 _ _ e.0 e.1))

@@ -1,4 +1,4 @@
--- The tokens' slots are all that the search rules
+-- The tokens' slots are all that the search needs
 use Prim.Native.Nat.{◌≤◌}
 use mathlib.Core.Path.{ap, ◌∙◌}
 use Rattle.queue_record.specs.Newest.{newest}
