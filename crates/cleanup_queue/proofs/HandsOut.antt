@@ -8,7 +8,7 @@ use native.Mathlib.Omega.{arith}
 use borrow.Author.Tests.{ne_eqb, lt-ltb, le-ltb, leb-true, leb-false}
 use lib.Dec.{leb, ltb}
 use Rattle.choice.specs.Choice.{if◌then◌else◌}
-use Rattle.choice.proofs.Ways.{miss, pass, stop, other}
+use Rattle.choice.proofs.Ways.{miss, pass, stop}
 use Rattle.queue_record.specs.Refusals.{broken, hollow, no_attempt}
 use Rattle.queue_record.specs.WellFormed.{well_formed, is_selected}
 use Rattle.queue_record.specs.Waiting.{occupied, without, waiting}

@@ -7,7 +7,7 @@ use native.Mathlib.Omega.{arith}
 use borrow.Author.Tests.{ltb-true, ltb-false}
 use lib.Dec.{eqb, ltb}
 use lib.ListN.{length, get_or, set, get_or-eq_default}
-use lib.Seq.{get_or-set_same, get_or-set_other, drop-set-lt, set_out}
+use lib.Seq.{get_or-set_same, drop-set-lt, set_out}
 use Rattle.stage.specs.Phases.{phase_after, is_settled}
 use Rattle.stage.specs.declared.phases.Phase.{Phase}
 use Rattle.stage.specs.declared.phases.Phase.TheVariants.{Idle, Pending, Ended, Stopping, Closed}
@@ -15,15 +15,15 @@ use Rattle.stage.specs.declared.phases.Event.{Event}
 use Rattle.stage.specs.declared.phases.Event.TheVariants.{Admit, Land, End, Cancel}
 use Rattle.choice.proofs.Ways.{if_by, pass, and_left, and_right, clash}
 use Rattle.queue_record.specs.Record.{with_selection, with_failed, with_phase}
-use Rattle.queue_record.specs.WellFormed.{all_zero, rest_zero, is_selected, ticket_fits, marks_fit, slot_fits, selected_fits, scope_fits, well_formed}
+use Rattle.queue_record.specs.WellFormed.{all_zero, rest_zero, is_selected, marks_fit, slot_fits, selected_fits, scope_fits, well_formed}
 use Rattle.queue_record.specs.declared.record.Kind.{Kind}
 use Rattle.queue_record.specs.declared.record.Kind.TheVariants.{Scope, Iterator}
 use Rattle.queue_record.specs.declared.record.Ticket.{Ticket}
 use Rattle.queue_record.specs.declared.record.Selection.{Selection}
 use Rattle.queue_record.specs.declared.record.Selection.TheVariants.{Free, Of}
 use Rattle.queue_record.specs.declared.record.Queue.{Queue}
-use Rattle.queue_record.proofs.Zeros.{full_below, rest_more}
-use Rattle.queue_record.proofs.Fit.{Fit, fit, fits, ticket_born, ticket_domain, ticket_before, ticket_fits_lem, selected_domain, selected_born, selected_before, failed_not_issued, issued_not_failed}
+use Rattle.queue_record.proofs.Zeros.{full_below}
+use Rattle.queue_record.proofs.Fit.{Fit, fit, fits, ticket_fits_lem, selected_domain, selected_born, selected_before, failed_not_issued, issued_not_failed}
 use Rattle.queue_births.specs.Births.{grown, registered, landed}
 use Rattle.queue_decisions.specs.Slots.{no_more}
 use Rattle.queue_steps.specs.Attempts.{slot, issued_to, fresh_ticket, popped, took_back, completed, retry_allowed, renewed, again, retried}

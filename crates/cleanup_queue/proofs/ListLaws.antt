@@ -1,16 +1,16 @@
 -- A whole list registered is the separate calls that were taken: what they leave, what each answers, and how many they are
-use Prim.Native.Nat.{ℕ, zero, suc, ◌+◌, ◌-◌, ◌<◌, ◌≤◌, min}
+use Prim.Native.Nat.{ℕ, suc, ◌+◌, ◌-◌, ◌<◌, ◌≤◌, min}
 use mathlib.Core.Path.{◌≡◌, refl, sym, ap, ◌∙◌, subst}
 use mathlib.Core.Logic.{◌↔◌}
 use mathlib.Core.Bool.{Bool, true, false, not}
 use mathlib.Core.List.{List, [], ◌∷◌, ◌++◌, append-nil}
 use native.Mathlib.Omega.{arith}
 use native.Mathlib.Numerals.{add-one}
-use borrow.Author.Tests.{eqb-true, eqb-false, leb-true, leb-false, not-true}
+use borrow.Author.Tests.{eqb-true, eqb-false, leb-true, leb-false}
 use lib.Dec.{eqb, leb}
 use lib.ListN.{length, take, drop, set, length-set}
 use lib.Seq.{take-suc-set, append_snoc, length-take-le}
-use Rattle.choice.proofs.Ways.{hit, miss, if_by, clash}
+use Rattle.choice.proofs.Ways.{hit, miss, clash}
 use Rattle.queue_record.specs.Record.{Sized}
 use Rattle.queue_record.specs.Refusals.{done, broken}
 use Rattle.queue_record.specs.WellFormed.{well_formed}
@@ -21,15 +21,14 @@ use Rattle.queue_decisions.specs.Sequences.{taken_of, refusal_of}
 use Rattle.queue_decisions.proofs.BirthLaws.{register_room}
 use Rattle.queue_decisions.proofs.SequenceLaws.{taken_one, taken_none, refusal_behind, refusal_here, taken_within, taken_room}
 use Rattle.queue_births.specs.Births.{born, grown, registered}
-use Rattle.queue_births.specs.Sequences.{took_as, took_none, in_turn, registered_all, grown_all}
+use Rattle.queue_births.specs.Sequences.{took_none, in_turn, registered_all, grown_all}
 use Rattle.queue_births.specs.declared.births.RegisterAnswer.{RegisterAnswer}
-use Rattle.queue_births.specs.declared.sequences.RegisteredAll.{RegisteredAll}
 use Rattle.queue_births.specs.declared.sequences.RegisterAllAnswer.{RegisterAllAnswer}
 use Rattle.queue_births.proofs.Grown.{grown_fits}
 use Rattle.queue_births.proofs.SequenceLaws.{registered_born, took_of, all_decided}
-use Rattle.cleanup_queue.specs.Orders.{Ground, first_due, register_order, broken_only}
+use Rattle.cleanup_queue.specs.Orders.{first_due, register_order, broken_only}
 use Rattle.cleanup_queue.specs.Parts.{LeavesSelected}
-use Rattle.cleanup_queue.specs.Runs.{Call, register, after, after_all, token_of, tokens, counted_from}
+use Rattle.cleanup_queue.specs.Runs.{Call, after_all, token_of, tokens, counted_from}
 use Rattle.cleanup_queue.specs.WholeLists.{registers_of, first_order, register_all_order, before_zero, PushesAll}
 
 -- ---- a record that is not well formed takes none, of an empty list too
