@@ -1,13 +1,13 @@
 -- The groups' part of the demands, call by call and question by question
 use Prim.Native.Nat.{ℕ, ◌<◌, ◌≤◌}
-use mathlib.Core.Path.{◌≡◌, refl, sym, ap, ◌∙◌, subst}
+use mathlib.Core.Path.{◌≡◌, refl, sym, ap, ◌∙◌}
 use mathlib.Core.Logic.{◌↔◌}
 use mathlib.Core.Bool.{Bool, true, false, not, ◌&&◌, ◌||◌}
 use mathlib.Core.List.{List, [], ◌∷◌}
 use native.Mathlib.Omega.{arith}
 use borrow.Author.Tests.{eqb-false, ne_eqb, le-ltb, not-true, not-false}
 use lib.Dec.{eqb, ltb}
-use lib.ListN.{length, replicate}
+use lib.ListN.{replicate}
 use Rattle.stage.specs.Phases.{is_pending}
 use Rattle.choice.proofs.Ways.{if_by, hit, miss, pass, stop, either, other, and_left, and_right, clash}
 use Rattle.queue_record.specs.Refusals.{done, no_group}
@@ -25,7 +25,7 @@ use Rattle.queue_questions.specs.Questions.{is_empty_told, is_issued_told, is_pe
 use Rattle.queue_questions.specs.declared.questions.Told.{Told}
 use Rattle.queue_questions.specs.declared.questions.Told.TheVariants.{Yes}
 use Rattle.cleanup_queue.specs.Answers.{Said, opened_says, registered_says, popped_says, completed_says, retried_says, told_says, cancelled_says, domain_says}
-use Rattle.cleanup_queue.specs.Orders.{Ground, first_due, RefusedAs, broken_only}
+use Rattle.cleanup_queue.specs.Orders.{first_due, RefusedAs, broken_only, register_order, land_order, pop_order, complete_order, retry_order}
 use Rattle.cleanup_queue.proofs.Numbers.{questions_number}
 use Rattle.group_record.specs.Record.{place_at, queue_at, free_place, with_place, with_queue, with_opened, empty_of, sealing}
 use Rattle.group_record.specs.declared.record.Place.{Place}
@@ -41,7 +41,7 @@ use Rattle.group_check.specs.declared.ids.GetAnswer.{GetAnswer}
 use Rattle.group_check.proofs.Spots.{spot_means}
 use Rattle.group_questions.specs.ById.{told_by, domain_by, accepts_in}
 use Rattle.group_survey.specs.Whole.{retries_all, room_for, can_retry_all_of, can_seal_of}
-use Rattle.group_openings.specs.Openings.{new_of, unsealed}
+use Rattle.group_openings.specs.Openings.{new_of}
 use Rattle.group_openings.specs.declared.openings.Added.{Added}
 use Rattle.group_openings.specs.declared.openings.NewAnswer.{NewAnswer}
 use Rattle.group_openings.proofs.Room.{unsealed_means}
@@ -54,7 +54,7 @@ use Rattle.group_steps.specs.declared.attempts.GroupCompleteAnswer.{GroupComplet
 use Rattle.group_steps.specs.declared.attempts.GroupRetryAnswer.{GroupRetryAnswer}
 use Rattle.group_stages.specs.declared.stages.GroupStageAnswer.{GroupStageAnswer}
 use Rattle.group_stages.specs.declared.stages.GroupCancelAnswer.{GroupCancelAnswer}
-use Rattle.group_rounds.specs.Rounds.{all_retried, retried_all}
+use Rattle.group_rounds.specs.Rounds.{retried_all}
 use Rattle.group_rounds.specs.declared.rounds.RetryAllAnswer.{RetryAllAnswer}
 use Rattle.cleanup_groups.specs.Answers.{added_says, closed_says, got_says}
 use Rattle.cleanup_groups.specs.Orders.{step_order}
@@ -273,15 +273,15 @@ module _ (g : Groups) (id : ℕ) (l : SixteenPlaces g) (w : well_grouped g ≡ t
       go false e = e
 
   dead_step : (c : BenchCall) → (said_of_groups g (by_id id c)).number ≡ no_group
-  dead_step (BenchCall.register k) = register_number g id k ∙ dead_next g id _ w unheld
-  dead_step (BenchCall.land k) = land_number g id k ∙ dead_next g id _ w unheld
-  dead_step BenchCall.pop = pop_number g id ∙ dead_next g id _ w unheld
-  dead_step (BenchCall.complete t o k) = complete_number g id t o k ∙ dead_next g id _ w unheld
-  dead_step BenchCall.retry = retry_number g id ∙ dead_next g id _ w unheld
-  dead_step (BenchCall.admit target) = admit_number g id target ∙ dead_next g id _ w unheld
-  dead_step BenchCall.admit_without = admit_without_number g id ∙ dead_next g id _ w unheld
-  dead_step BenchCall.end = end_number g id ∙ dead_next g id _ w unheld
-  dead_step BenchCall.cancel = cancel_number g id ∙ dead_next g id _ w unheld
+  dead_step (BenchCall.register k) = register_number g id k ∙ dead_next g id (λ q. register_order q k) w unheld
+  dead_step (BenchCall.land k) = land_number g id k ∙ dead_next g id (λ q. land_order q k) w unheld
+  dead_step BenchCall.pop = pop_number g id ∙ dead_next g id pop_order w unheld
+  dead_step (BenchCall.complete t o k) = complete_number g id t o k ∙ dead_next g id (λ q. complete_order q t o k) w unheld
+  dead_step BenchCall.retry = retry_number g id ∙ dead_next g id retry_order w unheld
+  dead_step (BenchCall.admit target) = admit_number g id target ∙ dead_next g id broken_only w unheld
+  dead_step BenchCall.admit_without = admit_without_number g id ∙ dead_next g id broken_only w unheld
+  dead_step BenchCall.end = end_number g id ∙ dead_next g id broken_only w unheld
+  dead_step BenchCall.cancel = cancel_number g id ∙ dead_next g id broken_only w unheld
 
   dead_close : (said_of_groups g (GroupCall.remove id)).number ≡ no_group
   dead_close = close_number g id ∙ (miss _ (ap not w) ∙ hit _ (ap not unheld))

@@ -1,5 +1,5 @@
 -- The library's part of the demands, call by call and question by question
-use Prim.Native.Nat.{ℕ, ◌<◌, ◌≤◌}
+use Prim.Native.Nat.{ℕ, ◌≤◌}
 use mathlib.Core.Path.{◌≡◌, refl, sym, ap, ◌∙◌}
 use mathlib.Core.Logic.{◌↔◌}
 use mathlib.Core.Bool.{Bool, true, false, not, ◌&&◌}
@@ -12,7 +12,7 @@ use Rattle.queue_record.specs.WellFormed.{well_formed}
 use Rattle.queue_record.specs.Openings.{Opening, scope_opened, iterator_opened, opened_as}
 use Rattle.queue_record.specs.declared.record.Queue.{Queue}
 use Rattle.queue_questions.specs.Questions.{matches}
-use Rattle.cleanup_queue.specs.Answers.{Said, says, opened_says}
+use Rattle.cleanup_queue.specs.Answers.{says, opened_says}
 use Rattle.cleanup_queue.specs.Orders.{RefusedAs}
 use Rattle.queue_words.specs.InPlace.{sound_number}
 use Rattle.queue_words.specs.Words.{queue_of, words_of, encodes, is_sound}

@@ -1,6 +1,5 @@
 -- The recorded calls' part of the demands, call by call
-use Prim.Native.Nat.{ℕ}
-use mathlib.Core.Path.{◌≡◌, refl, sym, ap, ◌∙◌}
+use mathlib.Core.Path.{◌≡◌, refl, ap, ◌∙◌}
 use mathlib.Core.Bool.{false}
 use Rattle.queue_record.specs.Refusals.{done}
 use Rattle.queue_questions.specs.Questions.{matches}

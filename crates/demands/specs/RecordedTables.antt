@@ -1,5 +1,5 @@
 -- The recorded calls of a queue, a line each: what one says
-use Rattle.std.specs.Prelude.{ℕ, false, List}
+use Rattle.std.specs.Prelude.{false}
 use Rattle.queue_questions.specs.Questions.{matches}
 use Rattle.cleanup_queue.specs.Answers.{Said, registered_says, popped_says, completed_says, retried_says, told_says, cancelled_says}
 use Rattle.log_births.specs.Births.{register_recorded, land_recorded}
