@@ -3,7 +3,6 @@ use Prim.Native.Nat.{ℕ, suc, ◌+◌, ◌<◌, ◌≤◌}
 use mathlib.Core.Path.{◌≡◌, refl, sym, ap, ◌∙◌}
 use mathlib.Core.Bool.{Bool, true, false, not}
 use mathlib.Core.List.{List, [], ◌∷◌}
-use native.Mathlib.Omega.{arith}
 use borrow.Author.Tests.{eq-eqb, ne_eqb, eqb-true, eqb-false}
 use lib.Dec.{eqb}
 use lib.ListN.{length, take, drop, get_or, drop_of_length-le}
@@ -16,7 +15,7 @@ use Rattle.queue_decisions.specs.declared.sequences.Taking.{Taking}
 use Rattle.queue_decisions.proofs.BirthLaws.{register_room}
 use Rattle.queue_decisions.proofs.SequenceLaws.{next_first, taken_one, taken_none, refusal_behind, refusal_here, sequence_taken, sequence_refusal}
 use Rattle.queue_births.specs.Births.{born, refused_birth, grown, born_by, registered}
-use Rattle.queue_births.specs.Sequences.{took_as, took_none, took_more, until_refused, in_turn, registered_all, grown_all}
+use Rattle.queue_births.specs.Sequences.{took_as, took_none, until_refused, in_turn, registered_all, grown_all}
 use Rattle.queue_births.specs.declared.births.RegisterAnswer.{RegisterAnswer}
 use Rattle.queue_births.specs.declared.sequences.RegisterAllAnswer.{RegisterAllAnswer}
 use Rattle.queue_births.proofs.Grown.{grown_fits}

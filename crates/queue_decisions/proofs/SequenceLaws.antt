@@ -1,8 +1,7 @@
 -- A list of numbers decided one by one: what is known where the first i of them are taken
-use Prim.Native.Nat.{ℕ, zero, suc, ◌+◌, ◌-◌, ◌<◌, ◌≤◌}
+use Prim.Native.Nat.{ℕ, suc, ◌+◌, ◌-◌, ◌<◌, ◌≤◌}
 use mathlib.Core.Path.{◌≡◌, refl, sym, ap, ◌∙◌}
-use mathlib.Core.Bool.{Bool, true, false}
-use mathlib.Core.List.{List, [], ◌∷◌, ◌++◌}
+use mathlib.Core.List.{List, [], ◌∷◌}
 use native.Mathlib.Omega.{arith}
 use native.Mathlib.Numerals.{add-one}
 use borrow.Author.Tests.{eq-eqb, ne_eqb, eqb-true}
@@ -10,7 +9,7 @@ use lib.Dec.{eqb}
 use lib.ListN.{length, take, drop, get_or, set, replicate, drop_of_length-le, length-append}
 use lib.Seq.{drop-cons, take-append-le, take-take, length-take-le}
 use Rattle.choice.proofs.Ways.{hit, miss, if_by}
-use Rattle.queue_record.proofs.Padding.{filled, filled_more, filled_is}
+use Rattle.queue_record.proofs.Padding.{filled_more, filled_is}
 use Rattle.queue_decisions.specs.Births.{register_refusal}
 use Rattle.queue_decisions.specs.Sequences.{taken_of, refusal_of, copied, taking_of}
 use Rattle.queue_decisions.specs.declared.sequences.Taking.{Taking}

@@ -8,10 +8,6 @@ use borrow.Author.Rules.{rules}
 use Rattle.group_asking.proofs.questions.is_finishing.Statement.{statement}
 use Rattle.group_asking.proofs.questions.is_finishing.Tie as tie
 
--- the places behind the tests, each as seen from the next
-abbrev to1 : tie.Else-id-eq0 → tie.Else-pending
-to1 c = c.before.before
-
 pub is_finishing_spec : {M : Type 1} → statement M
 is_finishing_spec =
     tie.close

@@ -14,10 +14,6 @@ use Rattle.group_endings.proofs.endings.seal.Tie as tie
 abbrev answered : Closed → Groups → CloseAnswer
 answered a g = record { answer = a; groups = g }
 
--- what is asked, as seen from a refusal
-abbrev asked_refused : tie.In-Refused → tie.Start
-asked_refused c = c.before.before
-
 -- behind the gate: the groups that are asked, which are open
 abbrev asked : tie.In-Open → Groups
 asked c = c.args.g

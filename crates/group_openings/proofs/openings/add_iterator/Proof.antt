@@ -11,14 +11,7 @@ use borrow.Author.Rules.{rules}
 use Rattle.group_openings.proofs.openings.add_iterator.Statement.{statement}
 use Rattle.group_openings.proofs.openings.add_iterator.Tie as tie
 
--- what is asked, as seen from a refusal
-abbrev asked_refused : tie.In-Refused → tie.Start
-asked_refused c = c.before.before.before
-
 -- behind the gate: the groups that are asked, which are open
-abbrev start : tie.In-Open → tie.Start
-start c = c.before.before.before
-
 abbrev asked : tie.In-Open → Groups
 asked c = c.args.g
 

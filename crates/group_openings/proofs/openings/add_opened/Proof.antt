@@ -5,13 +5,6 @@ use borrow.Author.Rules.{rules}
 use Rattle.group_openings.proofs.openings.add_opened.Statement.{statement}
 use Rattle.group_openings.proofs.openings.add_opened.Tie as tie
 
--- behind the answer that the opening gave: what is asked
-abbrev asked_refused : tie.In-Refused → tie.Start
-asked_refused c = c.before.before
-
-abbrev asked : tie.In-Open → tie.Start
-asked c = c.before.before
-
 pub add_opened_spec : {M : Type 1} → statement M
 add_opened_spec =
     tie.close

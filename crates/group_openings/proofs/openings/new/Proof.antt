@@ -17,10 +17,6 @@ use Rattle.group_openings.proofs.openings.new.Tie as tie
 abbrev answered : Opened → Groups → NewAnswer
 answered a g = record { answer = a; groups = g }
 
--- behind the opening of the root: what is asked
-abbrev asked : tie.After-scope-opening → tie.Start
-asked c = c.before.before
-
 pub new_spec : {M : Type 1} → statement M
 unfolding new_of
 new_spec =

@@ -8,10 +8,6 @@ use borrow.Author.Rules.{rules}
 use Rattle.group_questions.proofs.by_id.group_can_finish.Statement.{statement}
 use Rattle.group_questions.proofs.by_id.group_can_finish.Tie as tie
 
--- what is asked, as seen from behind the call or the loop
-abbrev asked : tie.After-can_finish → tie.Start
-asked c = c.before.before.before.before
-
 pub group_can_finish_spec : {M : Type 1} → statement M
 group_can_finish_spec =
     tie.close

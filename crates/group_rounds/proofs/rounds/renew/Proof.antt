@@ -8,13 +8,6 @@ use borrow.Author.Rules.{rules}
 use Rattle.group_rounds.proofs.rounds.renew.Statement.{statement}
 use Rattle.group_rounds.proofs.rounds.renew.Tie as tie
 
--- behind the first test: what is asked
-abbrev asked : tie.Else-not-place → tie.Start
-asked c = c.before.before
-
-abbrev to1 : tie.Else-not-queue → tie.Else-not-place
-to1 c = c.before.before.before
-
 pub renew_spec : {M : Type 1} → statement M
 renew_spec =
     tie.close

@@ -16,10 +16,6 @@ use borrow.Author.Rules.{rules}
 use Rattle.group_stages.proofs.stages.admit.Statement.{statement}
 use Rattle.group_stages.proofs.stages.admit.Tie as tie
 
--- what is asked, as seen from a refusal
-abbrev asked_refused : tie.In-Refused → tie.Start
-asked_refused c = c.before.before.before
-
 sixteen : (c : tie.Start) → length c.args.g.places ≡ 16
 sixteen c = search rules
 

@@ -1,7 +1,6 @@
 -- Issued, or else failed
 use mathlib.Core.Path.{sym}
 use Rattle.choice.proofs.Ways.{either, other}
-use borrow.Author.Rules.{rules}
 use Rattle.queue_decisions.proofs.pops.marked.Statement.{statement}
 use Rattle.queue_decisions.proofs.pops.marked.Tie as tie
 

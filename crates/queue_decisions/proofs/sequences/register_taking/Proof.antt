@@ -4,7 +4,6 @@ use mathlib.Core.Path.{◌≡◌, refl, sym, ap, ◌∙◌}
 use mathlib.Core.List.{List}
 use native.Mathlib.Omega.{arith}
 use lib.ListN.{length, get_or, set}
-use Rattle.queue_decisions.specs.Births.{register_refusal}
 use Rattle.queue_decisions.specs.Sequences.{copied}
 use Rattle.queue_decisions.specs.declared.sequences.Taking.{Taking}
 use Rattle.queue_decisions.proofs.BirthLaws.{register_room}

@@ -2,7 +2,7 @@
 use mathlib.Core.Path.{sym, ap, ◌∙◌}
 use borrow.Author.Tests.{lt-ltb, le-ltb}
 use Rattle.choice.proofs.Ways.{hit, miss}
-use Rattle.queue_record.specs.Openings.{started, iterator_opened, iterator_of}
+use Rattle.queue_record.specs.Openings.{iterator_opened, iterator_of}
 use Rattle.queue_record.specs.Refusals.{too_many_bindings}
 use Rattle.queue_record.specs.declared.openings.Opened.{Opened}
 use Rattle.queue_record.specs.declared.openings.Opened.TheVariants.{Open, Refused}

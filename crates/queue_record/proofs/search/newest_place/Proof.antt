@@ -8,7 +8,6 @@ use lib.ListN.{length}
 use Rattle.queue_record.specs.WellFormed.{rest_zero}
 use Rattle.queue_record.proofs.Zeros.{zero_end}
 use Rattle.queue_record.proofs.Last.{down_found, down_pass, down_none}
-use borrow.Author.Rules.{rules}
 use Rattle.queue_record.proofs.search.newest_place.Statement.{statement}
 use Rattle.queue_record.proofs.search.newest_place.Tie as tie
 
