@@ -18,7 +18,7 @@ use Rattle.group_steps.proofs.births.register.Tie as tie
 sixteen : (c : tie.Start) → length c.args.g.places ≡ 16
 sixteen c = search rules
 
--- behind the look_up: what was asked, and the spot that was found, which is one of the 16
+-- behind the look-up: what was asked, and the spot that was found, which is one of the 16
 abbrev asked : tie.In-At → tie.Start
 asked c = c.before.before
 

@@ -44,7 +44,7 @@ own c = asked (to1 (to_seek c))
 abbrev by_number : Queue → Found → ℕ → Due
 by_number q found number = pop_due q.issued q.failed q.selection found number q.domain q.next
 
--- the tokens' slots are all that the search rules
+-- the tokens' slots are all that the search needs
 found : (c : tie.After-seek-found) → c.seek-found.result ≡ sought (asked (to1 c)).selection (asked (to1 c)).slots
 found c = let q = asked (to1 c) in c.seek-found.ensures ∙ sought_issued q.selection q.count q.slots (fit q (sound (to1 c))).slots
 
