@@ -3,7 +3,7 @@ use Prim.Native.Nat.{ℕ}
 use mathlib.Core.Path.{◌≡◌, refl, ap, ◌∙◌}
 use mathlib.Core.Bool.{Bool, true, false, not}
 use mathlib.Core.List.{List, []}
-use Rattle.choice.specs.Choice.{if◌then◌else◌}
+use Rattle.choice.specs.Choice.{when◌then◌else◌}
 use Rattle.stage.specs.Phases.{is_cancelled}
 use Rattle.choice.proofs.Ways.{hit, miss, if_by}
 use Rattle.queue_record.specs.Newest.{is_there}
@@ -55,7 +55,7 @@ module _ (g : Groups) (id : ℕ) where
   unfolding spot_of
   step_number number f order r s = go (not (well_grouped g)) (first_yes g (Holds id) [])
     where
-      go : (a : Bool) (v : Found) → number (f (if a then Spot.Refused broken else spot_at v)) ≡ (if a then broken else if not (is_there v) then no_group else first_due (order_at g order v))
+      go : (a : Bool) (v : Found) → number (f (when a then Spot.Refused broken else spot_at v)) ≡ (when a then broken else when not (is_there v) then no_group else first_due (order_at g order v))
       go true v = r broken
       go false Missing = r no_group
       go false (At i) = s i
