@@ -62,14 +62,16 @@ module _ (g : Groups) (id : ℕ) where
 
   pub register_number : (n : ℕ) → (registered_says (registered_in g id n).answer).number ≡ first_due (step_order g id (λ q. register_order q n))
   unfolding registered_in
-  register_number n = step_number (λ (r : GroupRegisterAnswer). (registered_says r.answer).number) (registered_at g n) (λ q. register_order q n) (λ _. refl) (λ i. queue.register_number (queue_at g i) n)
+  register_number n = step_number (λ (r : GroupRegisterAnswer). (registered_says r.answer).number) (registered_at g n)
+      (λ q. register_order q n) (λ _. refl) (λ i. queue.register_number (queue_at g i) n)
 
   pub land_number : (n : ℕ) → (registered_says (landed_in g id n).answer).number ≡ first_due (step_order g id (λ q. land_order q n))
   unfolding landed_in
   land_number n = step_number (λ (r : GroupRegisterAnswer). (registered_says r.answer).number) (landed_at g n) (λ q. land_order q n) (λ _. refl) (λ i. queue.land_number (queue_at g i) n)
 
   -- of a whole list: 1, 10, then the number of the register of the next one, behind those that were taken
-  pub register_all_number : (numbers : List ℕ) → (registered_all_in g id numbers).answer.refusal ≡ first_due (step_order g id (λ q. register_all_order q numbers (registered_all q numbers).answer.taken))
+  pub register_all_number : (numbers : List ℕ) → (registered_all_in g id numbers).answer.refusal
+      ≡ first_due (step_order g id (λ q. register_all_order q numbers (registered_all q numbers).answer.taken))
   unfolding registered_all_in
   register_all_number numbers =
       step_number (λ (r : GroupRegisterAllAnswer). r.answer.refusal) (registered_all_at g numbers) (λ q. register_all_order q numbers (registered_all q numbers).answer.taken)

@@ -88,7 +88,8 @@ pub domain_says_lem : (g : Groups) (id i : ℕ) → length g.places ≡ 16 → w
 domain_says_lem g id i l w k a e = ap domain_says (domain_as g id i l w k a e)
 
 -- ---- refused: a number and no value
-pub refusals_say : (n : ℕ) → (added_says (Added.Refused n) ≡ says n []) × (closed_says (Closed.Refused n) ≡ says n []) × (len_says (LenTold.Refused n) ≡ says n []) × (got_says (Got.Refused n) ≡ says n [])
+pub refusals_say : (n : ℕ) → (added_says (Added.Refused n) ≡ says n []) × (closed_says (Closed.Refused n) ≡ says n [])
+    × (len_says (LenTold.Refused n) ≡ says n []) × (got_says (Got.Refused n) ≡ says n [])
 refusals_say n = (refl, refl, refl, refl)
 
 -- ---- and the number is not 0, which would say done
