@@ -3,13 +3,13 @@ use Prim.Native.Nat.{ℕ}
 use mathlib.Core.Path.{◌≡◌, refl, sym, ap, ◌∙◌}
 use mathlib.Core.Bool.{Bool, true, false, not, ◌&&◌, ◌||◌}
 use native.Mathlib.Omega.{arith}
-use Rattle.choice.specs.Choice.{if◌then◌else◌}
+use Rattle.choice.specs.Choice.{when◌then◌else◌}
 
 module _ {A : Type 0} {b : Bool} where
-  pub hit : {x : A} (y : A) → b ≡ true → (if b then x else y) ≡ x
+  pub hit : {x : A} (y : A) → b ≡ true → (when b then x else y) ≡ x
   hit y e = rw e
 
-  pub miss : (x : A) {y : A} → b ≡ false → (if b then x else y) ≡ y
+  pub miss : (x : A) {y : A} → b ≡ false → (when b then x else y) ≡ y
   miss x e = rw e
 
 pub pass : {a : Bool} (b : Bool) → a ≡ true → (a && b) ≡ b
@@ -41,7 +41,7 @@ and_right true b h = h
 and_right false b h = clash h refl
 
 -- a fact of what a test chooses, from the fact of each side
-pub if_by : {A : Type 0} (P : A → Type 0) (b : Bool) (x y : A) → (b ≡ true → P x) → (b ≡ false → P y) → P (if b then x else y)
+pub if_by : {A : Type 0} (P : A → Type 0) (b : Bool) (x y : A) → (b ≡ true → P x) → (b ≡ false → P y) → P (when b then x else y)
 if_by P true x y f g = f refl
 if_by P false x y f g = g refl
 
@@ -52,6 +52,6 @@ same_truth false true f g = g refl
 same_truth false false f g = refl
 
 -- a function of what a test chooses
-pub through : {A B : Type 0} (f : A → B) (b : Bool) (x y : A) {z : B} → (b ≡ false → f y ≡ z) → f (if b then x else y) ≡ (if b then f x else z)
+pub through : {A B : Type 0} (f : A → B) (b : Bool) (x y : A) {z : B} → (b ≡ false → f y ≡ z) → f (when b then x else y) ≡ (when b then f x else z)
 through f true x y h = refl
 through f false x y h = h refl

@@ -1,10 +1,10 @@
 -- A choice by a test, a test that is asked under a condition, and a test as a number
 use Rattle.std.specs.Prelude.{ℕ, Bool, true, false}
 
-infixr 1 if◌then◌else◌
-abbrev pub if◌then◌else◌ : {A : Type 0} → Bool → A → A → A
-if true then a else b = a
-if false then a else b = b
+infixr 1 when◌then◌else◌
+abbrev pub when◌then◌else◌ : {A : Type 0} → Bool → A → A → A
+when true then a else b = a
+when false then a else b = b
 
 -- the second is asked only where the first holds
 abbrev pub implies : Bool → Bool → Bool

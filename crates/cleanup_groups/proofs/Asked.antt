@@ -6,7 +6,7 @@ use mathlib.Core.List.{List, []}
 use native.Mathlib.Omega.{arith}
 use borrow.Author.Tests.{eq-eqb, ne_eqb, eqb-true, not-true, not-false}
 use lib.ListN.{length}
-use Rattle.choice.specs.Choice.{if◌then◌else◌}
+use Rattle.choice.specs.Choice.{when◌then◌else◌}
 use Rattle.stage.specs.Phases.{is_pending}
 use Rattle.choice.proofs.Ways.{miss, pass, clash, and_left, and_right}
 use Rattle.queue_record.specs.Refusals.{broken}
@@ -30,7 +30,7 @@ use Rattle.cleanup_groups.proofs.Sounds.{says_live, says_free, says_no, sound_me
 pub told_yes : (g : Groups) (b : Bool) → told_of g b ≡ Yes → (well_grouped g ≡ true) × (b ≡ true)
 told_yes g b h = go (well_grouped g) refl b refl h
   where
-    go : (w : Bool) → well_grouped g ≡ w → (c : Bool) → b ≡ c → (if not w then Told.Refused broken else yes_or_no c) ≡ Yes → (well_grouped g ≡ true) × (b ≡ true)
+    go : (w : Bool) → well_grouped g ≡ w → (c : Bool) → b ≡ c → (when not w then Told.Refused broken else yes_or_no c) ≡ Yes → (well_grouped g ≡ true) × (b ≡ true)
     go true e true f h = (e, f)
     go true e false f h = let z : ◌≡◌ {A = ℕ} 0 1 = cc in absurd (omega arith)
     go false e c f h = let z : ◌≡◌ {A = ℕ} 0 1 = cc in absurd (omega arith)

@@ -5,7 +5,7 @@ use mathlib.Core.Bool.{Bool, true, false}
 use mathlib.Core.List.{List, [], ◌∷◌}
 use native.Mathlib.Omega.{arith}
 use lib.ListN.{length, get_or, set}
-use Rattle.choice.specs.Choice.{if◌then◌else◌}
+use Rattle.choice.specs.Choice.{when◌then◌else◌}
 use Rattle.choice.proofs.Ways.{hit, miss}
 use Rattle.queue_record.specs.declared.record.Queue.{Queue}
 use Rattle.group_record.specs.Record.{nowhere, place_at, free_place, live_place, with_place, with_opened}
@@ -30,7 +30,7 @@ one false = 0
 count_head : (p : Place) (ps : List Place) → live_count (p ∷ ps) ≡ one p.live + live_count ps
 count_head p ps = go p.live
   where
-    go : (b : Bool) → (if b then suc (live_count ps) else live_count ps) ≡ one b + live_count ps
+    go : (b : Bool) → (when b then suc (live_count ps) else live_count ps) ≡ one b + live_count ps
     go true = omega arith
     go false = omega arith
 
@@ -79,7 +79,7 @@ pub count_most : (ps : List Place) → live_count ps ≤ length ps
 count_most [] = omega arith
 count_most (p ∷ ps) = let r : live_count ps ≤ length ps = count_most ps in go p.live r
   where
-    go : (b : Bool) → live_count ps ≤ length ps → (if b then suc (live_count ps) else live_count ps) ≤ suc (length ps)
+    go : (b : Bool) → live_count ps ≤ length ps → (when b then suc (live_count ps) else live_count ps) ≤ suc (length ps)
     go true r = omega arith
     go false r = omega arith
 

@@ -5,7 +5,7 @@ use mathlib.Core.Bool.{Bool, true, false}
 use mathlib.Core.List.{List, [], ◌∷◌}
 use native.Mathlib.Omega.{arith}
 use lib.ListN.{length, get_or}
-use Rattle.choice.specs.Choice.{if◌then◌else◌}
+use Rattle.choice.specs.Choice.{when◌then◌else◌}
 use Rattle.choice.proofs.Ways.{clash}
 use Rattle.queue_record.specs.Newest.{is_there}
 use Rattle.queue_record.specs.declared.search.Found.{Found}
@@ -20,7 +20,7 @@ module _ (says : Place → Bool) where
   none_each k [] h i l = absurd (omega arith)
   none_each k (p ∷ ps) h i l = go (says p) refl h (none_each (suc k) ps) i l
     where
-      go : (b : Bool) → says p ≡ b → is_there (if b then At k else first_from says (suc k) ps) ≡ false
+      go : (b : Bool) → says p ≡ b → is_there (when b then At k else first_from says (suc k) ps) ≡ false
           → (is_there (first_from says (suc k) ps) ≡ false → (i : ℕ) → i < length ps → says (get_or ps i nowhere) ≡ false)
           → (i : ℕ) → i < suc (length ps) → says (get_or (p ∷ ps) i nowhere) ≡ false
       go true e h r i l = clash {b = true} refl h
@@ -31,7 +31,7 @@ module _ (says : Place → Bool) where
   each_none k [] f = refl
   each_none k (p ∷ ps) f = go (says p) (f 0 (omega arith)) (each_none (suc k) ps (λ i l. f (suc i) (omega arith)))
     where
-      go : (b : Bool) → b ≡ false → is_there (first_from says (suc k) ps) ≡ false → is_there (if b then At k else first_from says (suc k) ps) ≡ false
+      go : (b : Bool) → b ≡ false → is_there (first_from says (suc k) ps) ≡ false → is_there (when b then At k else first_from says (suc k) ps) ≡ false
       go true e r = clash {b = true} refl e
       go false e r = r
 
@@ -40,7 +40,7 @@ module _ (says : Place → Bool) where
   found_says k [] i h = let z : ◌≡◌ {A = ℕ} 0 1 = cc in absurd (omega arith)
   found_says k (p ∷ ps) i h = go (says p) refl h (found_says (suc k) ps i)
     where
-      go : (b : Bool) → says p ≡ b → (if b then At k else first_from says (suc k) ps) ≡ At i
+      go : (b : Bool) → says p ≡ b → (when b then At k else first_from says (suc k) ps) ≡ At i
           → (first_from says (suc k) ps ≡ At i → (m : ℕ) × (i ≡ suc k + m) × (m < length ps) × (says (get_or ps m nowhere) ≡ true))
           → (m : ℕ) × (i ≡ k + m) × (m < suc (length ps)) × (says (get_or (p ∷ ps) m nowhere) ≡ true)
       go true e h r = let z : k ≡ i = cc in (0, omega arith, omega arith, e)
@@ -66,7 +66,7 @@ module _ (says : Place → Bool) where
   found_lowest k [] i h m l = let z : ◌≡◌ {A = ℕ} 0 1 = cc in absurd (omega arith)
   found_lowest k (p ∷ ps) i h m l = go (says p) refl h (found_lowest (suc k) ps i) m l
     where
-      go : (b : Bool) → says p ≡ b → (if b then At k else first_from says (suc k) ps) ≡ At i
+      go : (b : Bool) → says p ≡ b → (when b then At k else first_from says (suc k) ps) ≡ At i
           → (first_from says (suc k) ps ≡ At i → (m : ℕ) → suc k + m < i → says (get_or ps m nowhere) ≡ false) → (m : ℕ) → k + m < i → says (get_or (p ∷ ps) m nowhere) ≡ false
       go true e h r m l = let z : k ≡ i = cc in absurd (omega arith)
       go false e h r zero l = e

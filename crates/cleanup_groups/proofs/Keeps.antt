@@ -7,7 +7,7 @@ use native.Mathlib.Omega.{arith}
 use borrow.Author.Tests.{eqb-true, ltb-false}
 use lib.Dec.{eqb, ltb}
 use lib.ListN.{length, get_or, replicate}
-use Rattle.choice.specs.Choice.{if◌then◌else◌}
+use Rattle.choice.specs.Choice.{when◌then◌else◌}
 use Rattle.choice.proofs.Ways.{if_by, and_left, and_right, clash}
 use Rattle.queue_record.specs.WellFormed.{well_formed}
 use Rattle.queue_record.specs.Openings.{scope_of, blank}
@@ -50,11 +50,11 @@ found_at g question i l e =
     let m : w.0 < length g.places = w.2 in
     (omega arith, subst (λ (k : ℕ). asks_of question [] (place_at g k) ≡ true) y w.3)
 
-live_yes : (b x : Bool) → (if b then x else false) ≡ true → (b ≡ true) × (x ≡ true)
+live_yes : (b x : Bool) → (when b then x else false) ≡ true → (b ≡ true) × (x ≡ true)
 live_yes true x h = (refl, h)
 live_yes false x h = clash {b = false} h refl
 
-free_yes : (b : Bool) → (if b then false else true) ≡ true → b ≡ false
+free_yes : (b : Bool) → (when b then false else true) ≡ true → b ≡ false
 free_yes true h = clash {b = false} h refl
 free_yes false h = refl
 
@@ -71,7 +71,7 @@ spot_live g id i l e = holds_means g id i l (spot_means g id i e).1
 pub room_free : (g : Groups) (i : ℕ) → length g.places ≡ 16 → room_of g ≡ Spot.At i → (i < 16) × ((place_at g i).live ≡ false)
 room_free g i l e = let w = found_at g Free i l (room_means g i e).0 in (w.0, free_yes (place_at g i).live w.1)
 
-not_free : (b : Bool) → (if b then false else true) ≡ false → b ≡ true
+not_free : (b : Bool) → (when b then false else true) ≡ false → b ≡ true
 not_free true h = refl
 not_free false h = clash {b = true} refl h
 

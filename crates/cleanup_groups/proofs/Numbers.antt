@@ -5,7 +5,7 @@ use mathlib.Core.Bool.{Bool, true, false, not}
 use mathlib.Core.List.{List, [], ◌∷◌}
 use lib.Dec.{leb, ltb}
 use lib.ListN.{length}
-use Rattle.choice.specs.Choice.{if◌then◌else◌}
+use Rattle.choice.specs.Choice.{when◌then◌else◌}
 use Rattle.queue_record.specs.Newest.{is_there}
 use Rattle.queue_record.specs.Refusals.{broken, no_group, sealed, no_id}
 use Rattle.queue_record.specs.Openings.{scope_opened, iterator_opened}
@@ -45,10 +45,10 @@ module _ (g : Groups) where
 
   -- 1 and 12, then the rest
   gate_number : (f : Opened → AddAnswer) (rest : ℕ) → ((n : ℕ) → number_of (f (Opened.Refused n)) ≡ n) → number_of (f Open) ≡ rest
-      → number_of (f (unsealed g)) ≡ (if not (well_grouped g) then broken else if g.sealed then sealed else rest)
+      → number_of (f (unsealed g)) ≡ (when not (well_grouped g) then broken else when g.sealed then sealed else rest)
   gate_number f rest r o = go (not (well_grouped g)) g.sealed
     where
-      go : (a b : Bool) → number_of (f (if a then Opened.Refused broken else if b then Opened.Refused sealed else Open)) ≡ (if a then broken else if b then sealed else rest)
+      go : (a b : Bool) → number_of (f (when a then Opened.Refused broken else when b then Opened.Refused sealed else Open)) ≡ (when a then broken else when b then sealed else rest)
       go true b = r broken
       go false true = r sealed
       go false false = o
@@ -77,7 +77,7 @@ module _ (g : Groups) (id : ℕ) where
   unfolding got spot_of
   get_number = go (not (well_grouped g)) (first_yes g (Holds id) [])
     where
-      go : (a : Bool) (f : Found) → (got_says (got_at g (if a then Spot.Refused broken else spot_at f)).answer).number ≡ (if a then broken else if not (is_there f) then no_group else 0)
+      go : (a : Bool) (f : Found) → (got_says (got_at g (when a then Spot.Refused broken else spot_at f)).answer).number ≡ (when a then broken else when not (is_there f) then no_group else 0)
       go true f = refl
       go false Missing = refl
       go false (At i) = refl
@@ -86,8 +86,8 @@ module _ (g : Groups) (id : ℕ) where
   unfolding removed spot_of
   close_number = go (not (well_grouped g)) (first_yes g (Holds id) [])
     where
-      go : (a : Bool) (f : Found) → (closed_says (removed_at g (if a then Spot.Refused broken else spot_at f)).answer).number
-          ≡ (if a then broken else if not (is_there f) then no_group else if undrained_at g f then 13 else 0)
+      go : (a : Bool) (f : Found) → (closed_says (removed_at g (when a then Spot.Refused broken else spot_at f)).answer).number
+          ≡ (when a then broken else when not (is_there f) then no_group else when undrained_at g f then 13 else 0)
       go true f = refl
       go false Missing = refl
       go false (At i) = due_if (λ (r : CloseAnswer). (closed_says r.answer).number) (not (drained (queue_at g i))) _ _ refl refl
@@ -96,8 +96,8 @@ pub seal_number : (g : Groups) → (closed_says (sealed_in g).answer).number ≡
 unfolding sealed_in
 seal_number g = go (not (well_grouped g)) g.sealed
   where
-    go : (a b : Bool) → (closed_says (sealed_by g (if a then Opened.Refused broken else if b then Opened.Refused sealed else Open)).answer).number
-        ≡ (if a then broken else if b then sealed else if some_yes g Undrained [] then 13 else 0)
+    go : (a b : Bool) → (closed_says (sealed_by g (when a then Opened.Refused broken else when b then Opened.Refused sealed else Open)).answer).number
+        ≡ (when a then broken else when b then sealed else when some_yes g Undrained [] then 13 else 0)
     go true b = refl
     go false true = refl
     go false false = due_if (λ (r : CloseAnswer). (closed_says r.answer).number) (some_yes g Undrained []) _ _ refl refl

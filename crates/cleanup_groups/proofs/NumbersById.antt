@@ -3,7 +3,7 @@ use Prim.Native.Nat.{ℕ}
 use mathlib.Core.Path.{◌≡◌, refl, ap, ◌∙◌}
 use mathlib.Core.Bool.{Bool, true, false, not}
 use mathlib.Core.List.{List, []}
-use Rattle.choice.specs.Choice.{if◌then◌else◌}
+use Rattle.choice.specs.Choice.{when◌then◌else◌}
 use Rattle.stage.specs.Phases.{is_cancelled}
 use Rattle.choice.proofs.Ways.{hit, miss, if_by}
 use Rattle.queue_record.specs.Newest.{is_there}
@@ -55,21 +55,23 @@ module _ (g : Groups) (id : ℕ) where
   unfolding spot_of
   step_number number f order r s = go (not (well_grouped g)) (first_yes g (Holds id) [])
     where
-      go : (a : Bool) (v : Found) → number (f (if a then Spot.Refused broken else spot_at v)) ≡ (if a then broken else if not (is_there v) then no_group else first_due (order_at g order v))
+      go : (a : Bool) (v : Found) → number (f (when a then Spot.Refused broken else spot_at v)) ≡ (when a then broken else when not (is_there v) then no_group else first_due (order_at g order v))
       go true v = r broken
       go false Missing = r no_group
       go false (At i) = s i
 
   pub register_number : (n : ℕ) → (registered_says (registered_in g id n).answer).number ≡ first_due (step_order g id (λ q. register_order q n))
   unfolding registered_in
-  register_number n = step_number (λ (r : GroupRegisterAnswer). (registered_says r.answer).number) (registered_at g n) (λ q. register_order q n) (λ _. refl) (λ i. queue.register_number (queue_at g i) n)
+  register_number n = step_number (λ (r : GroupRegisterAnswer). (registered_says r.answer).number) (registered_at g n)
+      (λ q. register_order q n) (λ _. refl) (λ i. queue.register_number (queue_at g i) n)
 
   pub land_number : (n : ℕ) → (registered_says (landed_in g id n).answer).number ≡ first_due (step_order g id (λ q. land_order q n))
   unfolding landed_in
   land_number n = step_number (λ (r : GroupRegisterAnswer). (registered_says r.answer).number) (landed_at g n) (λ q. land_order q n) (λ _. refl) (λ i. queue.land_number (queue_at g i) n)
 
   -- of a whole list: 1, 10, then the number of the register of the next one, behind those that were taken
-  pub register_all_number : (numbers : List ℕ) → (registered_all_in g id numbers).answer.refusal ≡ first_due (step_order g id (λ q. register_all_order q numbers (registered_all q numbers).answer.taken))
+  pub register_all_number : (numbers : List ℕ) → (registered_all_in g id numbers).answer.refusal
+      ≡ first_due (step_order g id (λ q. register_all_order q numbers (registered_all q numbers).answer.taken))
   unfolding registered_all_in
   register_all_number numbers =
       step_number (λ (r : GroupRegisterAllAnswer). r.answer.refusal) (registered_all_at g numbers) (λ q. register_all_order q numbers (registered_all q numbers).answer.taken)

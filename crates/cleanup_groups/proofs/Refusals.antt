@@ -94,7 +94,8 @@ module _ (g : Groups) where
 
     pub admit_without_refused : Leaves (admitted_in_without g id)
     unfolding admitted_in_without
-    admit_without_refused = by_spot (λ (a : GroupStageAnswer). Leaves a) (admitted_at_without g) (spot_of g id) (λ _ _ _ _. refl) (λ i _ r h. put_back i _ (queue.admit_returns (queue_at g i) false r h))
+    admit_without_refused = by_spot (λ (a : GroupStageAnswer). Leaves a) (admitted_at_without g) (spot_of g id) (λ _ _ _ _. refl)
+        (λ i _ r h. put_back i _ (queue.admit_returns (queue_at g i) false r h))
 
     pub end_refused : Leaves (ended_in g id)
     unfolding ended_in

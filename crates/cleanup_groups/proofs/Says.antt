@@ -6,7 +6,7 @@ use mathlib.Core.List.{List, [], ◌∷◌}
 use native.Mathlib.Omega.{arith}
 use lib.Dec.{ltb}
 use lib.ListN.{length}
-use Rattle.choice.specs.Choice.{if◌then◌else◌}
+use Rattle.choice.specs.Choice.{when◌then◌else◌}
 use Rattle.choice.proofs.Ways.{if_by, miss}
 use Rattle.queue_record.specs.Refusals.{done}
 use Rattle.queue_record.specs.declared.openings.Opened.{Opened}
@@ -38,7 +38,7 @@ use Rattle.cleanup_groups.proofs.Live.{domain_as}
 use Rattle.cleanup_groups.proofs.Upstream.{new_root}
 
 -- ---- done: 0, and the values
-yes_says : (b : Bool) → told_says (yes_or_no b) ≡ says done ((if b then 1 else 0) ∷ [])
+yes_says : (b : Bool) → told_says (yes_or_no b) ≡ says done ((when b then 1 else 0) ∷ [])
 yes_says true = refl
 yes_says false = refl
 
@@ -62,14 +62,14 @@ module _ (g : Groups) where
   len_says_lem w = ap len_says (miss (LenTold.Refused 1) (ap not w))
 
   -- a question to the whole record: 1 is yes, 0 is no
-  pub whole_says : (b : Bool) → well_grouped g ≡ true → told_says (told_of g b) ≡ says done ((if b then 1 else 0) ∷ [])
+  pub whole_says : (b : Bool) → well_grouped g ≡ true → told_says (told_of g b) ≡ says done ((when b then 1 else 0) ∷ [])
   whole_says b w = ap told_says (miss (Told.Refused 1) (ap not w)) ∙ yes_says b
 
-  pub retry_all_says : well_grouped g ≡ true → told_says (retried_all g).answer ≡ says done ((if retries_all g then 1 else 0) ∷ [])
+  pub retry_all_says : well_grouped g ≡ true → told_says (retried_all g).answer ≡ says done ((when retries_all g then 1 else 0) ∷ [])
   unfolding retried_all
   retry_all_says w = ap (λ (r : RetryAllAnswer). told_says r.answer) (miss (round_done (Told.Refused 1) g) (ap not w)) ∙ go (retries_all g)
     where
-      go : (b : Bool) → told_says (if not b then round_done Told.No g else round_done Told.Yes (all_retried g)).answer ≡ says done ((if b then 1 else 0) ∷ [])
+      go : (b : Bool) → told_says (when not b then round_done Told.No g else round_done Told.Yes (all_retried g)).answer ≡ says done ((when b then 1 else 0) ∷ [])
       go true = refl
       go false = refl
 
@@ -88,7 +88,8 @@ pub domain_says_lem : (g : Groups) (id i : ℕ) → length g.places ≡ 16 → w
 domain_says_lem g id i l w k a e = ap domain_says (domain_as g id i l w k a e)
 
 -- ---- refused: a number and no value
-pub refusals_say : (n : ℕ) → (added_says (Added.Refused n) ≡ says n []) × (closed_says (Closed.Refused n) ≡ says n []) × (len_says (LenTold.Refused n) ≡ says n []) × (got_says (Got.Refused n) ≡ says n [])
+pub refusals_say : (n : ℕ) → (added_says (Added.Refused n) ≡ says n []) × (closed_says (Closed.Refused n) ≡ says n [])
+    × (len_says (LenTold.Refused n) ≡ says n []) × (got_says (Got.Refused n) ≡ says n [])
 refusals_say n = (refl, refl, refl, refl)
 
 -- ---- and the number is not 0, which would say done

@@ -134,7 +134,8 @@ module _ (g : Groups) (id : ℕ) where
 
   pub complete_numbered : (t : Ticket) (outcome kept back : ℕ) → Numbered (λ n. Completed.Refused n back) (completed_in g id t outcome kept).answer
   unfolding completed_in
-  complete_numbered t outcome kept back = step_numbered (λ n. Completed.Refused n back) (λ s. (completed_at g t outcome kept s).answer) (λ m n e. cc) (λ i. completes (queue_at g i) t outcome kept back)
+  complete_numbered t outcome kept back = step_numbered (λ n. Completed.Refused n back) (λ s. (completed_at g t outcome kept s).answer)
+      (λ m n e. cc) (λ i. completes (queue_at g i) t outcome kept back)
 
   pub retry_numbered : Numbered Retried.Refused (retried_in g id).answer
   unfolding retried_in

@@ -7,7 +7,7 @@ use native.Mathlib.Omega.{arith}
 use borrow.Author.Tests.{eq-eqb, ne_eqb, eqb-true, leb-false, lt-leb, ltb-true, ltb-false, not-true, not-false}
 use lib.Dec.{eqb, ltb}
 use lib.ListN.{length, get_or}
-use Rattle.choice.specs.Choice.{if◌then◌else◌, implies}
+use Rattle.choice.specs.Choice.{when◌then◌else◌, implies}
 use Rattle.choice.proofs.Ways.{hit, miss, pass, stop, and_left, and_right, clash, if_by}
 use Rattle.queue_record.specs.Newest.{is_there}
 use Rattle.queue_record.specs.WellFormed.{well_formed}
@@ -89,7 +89,7 @@ module _ (g : Groups) (l : length g.places ≡ 16) where
   clean : (i : ℕ) → i < 16 → (place_at g i).live ≡ false → free_fits g ≡ true → (eqb (id_at g i) 0 && is_blank (queue_at g i)) ≡ true
   clean i k a h = not-false _ (sym (says_free Littered [] (place_at g i) a) ∙ said Littered h i k)
 
-  unlive : (b : Bool) → (if b then true else false) ≡ false → b ≡ false
+  unlive : (b : Bool) → (when b then true else false) ≡ false → b ≡ false
   unlive true h = h
   unlive false h = h
 

@@ -88,7 +88,8 @@ module _ (g : Groups) (l : length g.places ≡ 16) (n : ℕ) where
       (λ _ _ h. let z : ◌≡◌ {A = ℕ} 0 1 = cc in absurd (omega arith)) (λ i u e h. add_as _ i u e h)
 
   -- the committed bindings are the given ones: it is the queue that opening an iterator with them gives
-  pub iterator_as : (bindings : List ℕ) → (added_iterator g bindings).answer ≡ Added.Id n → (length bindings ≤ 16) × AddedAs g n (iterator_of (next_domain g) 0 bindings) (added_iterator g bindings).groups
+  pub iterator_as : (bindings : List ℕ) → (added_iterator g bindings).answer ≡ Added.Id n
+      → (length bindings ≤ 16) × AddedAs g n (iterator_of (next_domain g) 0 bindings) (added_iterator g bindings).groups
   iterator_as bindings =
       iterator_by (λ (r : AddAnswer). r.answer ≡ Added.Id n → (length bindings ≤ 16) × AddedAs g n (iterator_of (next_domain g) 0 bindings) r.groups) g
       (λ _ _ h. let z : ◌≡◌ {A = ℕ} 0 1 = cc in absurd (omega arith)) bindings (λ i u b e h. (b, add_as _ i u e h))

@@ -6,7 +6,7 @@ use mathlib.Core.List.{List, [], ◌∷◌}
 use native.Mathlib.Omega.{arith}
 use borrow.Author.Tests.{not-true}
 use lib.Dec.{eqb}
-use Rattle.choice.specs.Choice.{if◌then◌else◌}
+use Rattle.choice.specs.Choice.{when◌then◌else◌}
 use Rattle.stage.specs.Bindings.{same_set}
 use Rattle.stage.specs.Phases.{is_pending, is_cancelled}
 use Rattle.choice.proofs.Ways.{hit, miss, pass, and_left, and_right, clash}
@@ -31,7 +31,7 @@ use Rattle.cleanup_queue.specs.Promises.{Finishable}
 pub asked_yes : (q : Queue) (b : Bool) → asked q b ≡ Yes → (well_formed q ≡ true) × (b ≡ true)
 asked_yes q b h = go (well_formed q) refl b refl h
   where
-    go : (w : Bool) → well_formed q ≡ w → (c : Bool) → b ≡ c → (if not w then Refused 1 else yes_or_no c) ≡ Yes → (well_formed q ≡ true) × (b ≡ true)
+    go : (w : Bool) → well_formed q ≡ w → (c : Bool) → b ≡ c → (when not w then Refused 1 else yes_or_no c) ≡ Yes → (well_formed q ≡ true) × (b ≡ true)
     go true e true f h = (e, f)
     go true e false f h = let z : ◌≡◌ {A = ℕ} 0 1 = cc in absurd (omega arith)
     go false e c f h = let z : ◌≡◌ {A = ℕ} 0 1 = cc in absurd (omega arith)

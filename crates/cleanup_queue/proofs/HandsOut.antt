@@ -7,7 +7,7 @@ use mathlib.Core.List.{List, [], ◌∷◌, ◌++◌}
 use native.Mathlib.Omega.{arith}
 use borrow.Author.Tests.{ne_eqb, lt-ltb, le-ltb, leb-true, leb-false}
 use lib.Dec.{leb, ltb}
-use Rattle.choice.specs.Choice.{if◌then◌else◌}
+use Rattle.choice.specs.Choice.{when◌then◌else◌}
 use Rattle.choice.proofs.Ways.{miss, pass, stop}
 use Rattle.queue_record.specs.Refusals.{broken, hollow, no_attempt}
 use Rattle.queue_record.specs.WellFormed.{well_formed, is_selected}
@@ -49,7 +49,7 @@ module _ (q : Queue) where
       ap hands (miss _ (ne_eqb (slot q token) 0 (chosen_full q e token n)))
       ∙ (room (leb no_more q.next) refl ∙ sym (pass _ (ap not (newest_left (waiting q) token n))))
     where
-      room : (b : Bool) → leb no_more q.next ≡ b → hands (if b then Due.Refused no_attempt else Due.Of (fresh_ticket q token) (slot q token) (q.next + 1)) ≡ ltb q.next no_more
+      room : (b : Bool) → leb no_more q.next ≡ b → hands (when b then Due.Refused no_attempt else Due.Of (fresh_ticket q token) (slot q token) (q.next + 1)) ≡ ltb q.next no_more
       room true h = sym (le-ltb q.next no_more (leb-true no_more q.next h))
       room false h = sym (lt-ltb q.next no_more (leb-false no_more q.next h))
 
@@ -62,8 +62,8 @@ module _ (q : Queue) where
   pop_exactly = go (well_formed q) refl q.issued refl q.failed refl
     where
       go : (w : Bool) → well_formed q ≡ w → (i : Bool) → q.issued ≡ i → (f : Bool) → q.failed ≡ f
-          → hands_out (if not w then refused_pop q broken
-          else popped_as q (if i then Due.Nothing else if f then Due.Nothing
+          → hands_out (when not w then refused_pop q broken
+          else popped_as q (when i then Due.Nothing else when f then Due.Nothing
           else unmarked_in q q.selection)).answer
           ≡ (w && (not i && (not f && rest q.selection (waiting q))))
       go false e i h f k = refl

@@ -6,7 +6,7 @@ use mathlib.Core.List.{List, [], ◌∷◌}
 use native.Mathlib.Omega.{arith}
 use lib.Dec.{eqb, leb, ltb}
 use lib.ListN.{length}
-use Rattle.choice.specs.Choice.{if◌then◌else◌, bit}
+use Rattle.choice.specs.Choice.{when◌then◌else◌, bit}
 use Rattle.stage.specs.Phases.{is_pending, is_settled, is_cancelled}
 use Rattle.choice.proofs.Ways.{hit, miss, if_by}
 use Rattle.queue_record.specs.Refusals.{done, broken, no_attempt, no_retry, hollow, nothing_kept, no_further_attempt}
@@ -59,7 +59,7 @@ use Rattle.cleanup_queue.proofs.ByCase.{register_cases, register_by, land_cases,
 use Rattle.cleanup_queue.proofs.Upstream.{admit_answers, end_answers}
 
 -- one test more in front: what it refuses with is said exactly if it holds
-pub due_if : {A B : Type 0} (said : A → B) (b : Bool) (x y : A) {k m : B} → said x ≡ k → said y ≡ m → said (if b then x else y) ≡ (if b then k else m)
+pub due_if : {A B : Type 0} (said : A → B) (b : Bool) (x y : A) {k m : B} → said x ≡ k → said y ≡ m → said (when b then x else y) ≡ (when b then k else m)
 due_if said true x y p q = p
 due_if said false x y p q = q
 
@@ -149,7 +149,7 @@ module _ (q : Queue) where
   by_said (Of t) e = due_if taken_as (eqb (slot q t.token) 0) _ _ refl refl
 
   -- while something is issued or failed nothing is due
-  idle_said : (i f : Bool) → taken_as (if i then Due.Nothing else if f then Due.Nothing else unmarked_in q q.selection)
+  idle_said : (i f : Bool) → taken_as (when i then Due.Nothing else when f then Due.Nothing else unmarked_in q q.selection)
       ≡ first_said (due hollow (is_hollow q (chosen_token i f q.selection (waiting q)))
       ∷ due no_attempt (is_there (fresh_token i f q.selection (waiting q)) && leb no_more q.next) ∷ []) [] (work_values q i f q.selection)
   idle_said true f = refl
@@ -207,7 +207,7 @@ module _ (q : Queue) where
 
       -- each of the three where it is met, and the ticket where none is
       in_order : (t : Ticket) (failed empty over : Bool)
-          → by (renewed_unless (if not failed then no_retry else if empty then nothing_kept else if over then no_further_attempt else done) (renewed q t))
+          → by (renewed_unless (when not failed then no_retry else when empty then nothing_kept else when over then no_further_attempt else done) (renewed q t))
           ≡ first_said (causes failed empty over) [] (renewed_values q (Of t))
       in_order t false empty over = refl
       in_order t true true over = refl
@@ -219,7 +219,7 @@ module _ (q : Queue) where
       by_own_lem w Free e = sym (hit _ (ap not (free_no_marks q w e).0))
       by_own_lem w (Of t) e = in_order t q.failed (eqb (slot q t.token) 0) (leb no_more q.next)
 
-      by_check : (sound : Bool) → well_formed q ≡ sound → renewing (if not sound then refused_retry q broken else retried_as q (due_again_in q))
+      by_check : (sound : Bool) → well_formed q ≡ sound → renewing (when not sound then refused_retry q broken else retried_as q (due_again_in q))
           ≡ first_said (due broken (not sound) ∷ causes q.failed (eqb (kept_in q q.selection) 0) (leb no_more q.next)) [] (renewed_values q q.selection)
       by_check true w = by_own_lem w q.selection refl
       by_check false w = refl

@@ -10,7 +10,7 @@ use borrow.Author.Tests.{eq-eqb, ne_eqb, le-ltb, lt-leb, eqb-true, eqb-false, no
 use lib.Dec.{eqb, ltb}
 use lib.ListN.{length, get_or, set, take}
 use lib.Seq.{take-suc-set, take-append_seam}
-use Rattle.choice.specs.Choice.{if◌then◌else◌}
+use Rattle.choice.specs.Choice.{when◌then◌else◌}
 use Rattle.stage.specs.Bindings.{member}
 use Rattle.stage.specs.Phases.{phase_after, is_pending, is_settled, is_cancelled}
 use Rattle.stage.specs.declared.phases.Phase.{Phase}
@@ -97,7 +97,7 @@ without_apart : (t : ℕ) (ks : List ℕ) → member t (without t ks) ≡ false
 without_apart t [] = refl
 without_apart t (k ∷ ks) = go (eqb k t) refl (without_apart t ks)
   where
-    go : (b : Bool) → eqb k t ≡ b → member t (without t ks) ≡ false → member t (if b then without t ks else k ∷ without t ks) ≡ false
+    go : (b : Bool) → eqb k t ≡ b → member t (without t ks) ≡ false → member t (when b then without t ks else k ∷ without t ks) ≡ false
     go true e rest = rest
     go false e rest = other _ e ∙ rest
 
@@ -105,7 +105,7 @@ without_other : (j t : ℕ) (ks : List ℕ) → (j ≡ t → ⊥) → member j (
 without_other j t [] n = refl
 without_other j t (k ∷ ks) n = go (eqb k t) refl (without_other j t ks n)
   where
-    go : (b : Bool) → eqb k t ≡ b → member j (without t ks) ≡ member j ks → member j (if b then without t ks else k ∷ without t ks) ≡ (eqb k j || member j ks)
+    go : (b : Bool) → eqb k t ≡ b → member j (without t ks) ≡ member j ks → member j (when b then without t ks else k ∷ without t ks) ≡ (eqb k j || member j ks)
     go true e rest = rest ∙ sym (other _ (ne_eqb k j (λ p. n (sym p ∙ eqb-true k t e))))
     go false e rest = ap (λ (b : Bool). eqb k j || b) rest
 

@@ -1,6 +1,6 @@
 -- R64: what each call says: its refusals in their order, each with when it is given, and its values
 use Rattle.std.specs.Prelude.{ℕ, ◌≡◌, Bool, true, false, not, ◌&&◌, List, [], ◌∷◌, eqb, leb, ltb, length}
-use Rattle.choice.specs.Choice.{if◌then◌else◌, bit}
+use Rattle.choice.specs.Choice.{when◌then◌else◌, bit}
 use Rattle.stage.specs.Phases.{is_pending}
 use Rattle.queue_record.specs.Refusals.{done, broken, bad_number, no_slot, not_pending, no_attempt, not_out, kept_on_done, no_retry, hollow, bad_outcome, too_many_bindings, nothing_kept, no_further_attempt}
 use Rattle.queue_record.specs.Openings.{Opening, kept_bindings}
@@ -30,12 +30,12 @@ due n b = record { number = n; case = b }
 -- the first that is due; 0, done, where none is
 abbrev pub first_due : List Ground → ℕ
 first_due [] = done
-first_due (d ∷ ds) = if d.case then d.number else first_due ds
+first_due (d ∷ ds) = when d.case then d.number else first_due ds
 
 -- what a call says: the first that is due with the values given back; 0, done, with the call's own values where none is
 abbrev pub first_said : List Ground → List ℕ → List ℕ → Said
 first_said [] back own = says done own
-first_said (d ∷ ds) back own = if d.case then says d.number back else first_said ds back own
+first_said (d ∷ ds) back own = when d.case then says d.number back else first_said ds back own
 
 -- where an answer's number is not 0, its values are those given back, and the record with it is q
 abbrev pub RefusedAs : Queue → List ℕ → Said → Queue → Type 0

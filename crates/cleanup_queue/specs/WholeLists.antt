@@ -1,6 +1,6 @@
 -- A whole list registered: the separate calls that it stands for, when it is refused, and how many it takes
 use Rattle.std.specs.Prelude.{ℕ, suc, ◌+◌, ◌≡◌, List, [], ◌∷◌, ◌++◌, eqb, take, drop}
-use Rattle.choice.specs.Choice.{if◌then◌else◌}
+use Rattle.choice.specs.Choice.{when◌then◌else◌}
 use Rattle.queue_record.specs.declared.record.Queue.{Queue}
 use Rattle.queue_births.specs.declared.sequences.RegisteredAll.{RegisteredAll}
 use Rattle.queue_births.specs.declared.sequences.RegisterAllAnswer.{RegisterAllAnswer}
@@ -30,7 +30,7 @@ register_all_order q ns taken = broken_only q ++ first_order (after_all q (regis
 -- how many numbers lie before the first 0; all of them where none is 0
 abbrev pub before_zero : List ℕ → ℕ
 before_zero [] = 0
-before_zero (n ∷ ns) = if eqb n 0 then 0 else suc (before_zero ns)
+before_zero (n ∷ ns) = when eqb n 0 then 0 else suc (before_zero ns)
 
 -- R38: the slots in use get the taken numbers behind them, in their order; the selected ticket, both marks, next and the phase stay
 abbrev pub PushesAll : Queue → List ℕ → RegisterAllAnswer → Type 0

@@ -25,8 +25,10 @@ use Rattle.cleanup_groups.specs.Answers.{len_says}
 use Rattle.cleanup_groups.specs.Promises.{Numbered}
 use Rattle.cleanup_groups.proofs.Says.{len_numbered, whole_numbered}
 use Rattle.cleanup_groups.proofs.SaysById.{told_numbered, domain_numbered, accepts_numbered}
-use Rattle.demands.specs.CallTables.{told_to, meant_by, told_by_id, QueueQuestion, asks_empty, asks_issued, asks_pending, asks_settled, asks_cancelled, asks_failed, asks_retry, asks_finish, asks_domain}
-use Rattle.demands.specs.CallTables.{RecordQuestion, record_told, asks_contains, asks_none_live, asks_some_pending, asks_some_issued, asks_some_failed, asks_retry_all, asks_all_finish, asks_seal, asks_room}
+use Rattle.demands.specs.CallTables.{told_to, meant_by, told_by_id, QueueQuestion, asks_empty, asks_issued}
+use Rattle.demands.specs.CallTables.{asks_pending, asks_settled, asks_cancelled, asks_failed, asks_retry, asks_finish, asks_domain}
+use Rattle.demands.specs.CallTables.{RecordQuestion, record_told, asks_contains, asks_none_live, asks_some_pending}
+use Rattle.demands.specs.CallTables.{asks_some_issued, asks_some_failed, asks_retry_all, asks_all_finish, asks_seal, asks_room}
 
 -- ---- a queue's
 pub asks_say_lem : (q : Queue) (a : QueueQuestion) → told_to q a ≡ first_said (broken_only q) [] (meant_by q a ∷ [])

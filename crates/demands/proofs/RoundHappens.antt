@@ -21,5 +21,6 @@ use Rattle.group_rounds.specs.Rounds.{retried_all}
 use Rattle.cleanup_groups.specs.Runs.{register, pop, complete, groups_after_all}
 
 pub round_said_yes : (retried_all (groups_after_all (new_of 0).groups (register 0 72 ∷ pop 0 ∷ complete 0 (record { domain = 0; token = 0; attempt = 0 }) 1 72 ∷ []))).answer ≡ Yes
-unfolding retried_all new_of empty_of well_grouped well_formed scope_of blank registered register_refusal popped pop_due completed complete_refusal newest can_retry_told spot_of registered_in popped_in completed_in
+unfolding retried_all new_of empty_of well_grouped well_formed scope_of blank registered register_refusal
+    popped pop_due completed complete_refusal newest can_retry_told spot_of registered_in popped_in completed_in
 round_said_yes = refl

@@ -1,7 +1,7 @@
 -- The three demands, and one on the library, a field for each sentence, over the definitions that the contracts of the public calls cite
 use Rattle.std.specs.Prelude.{ℕ, ◌+◌, ◌-◌, ◌<◌, ◌≤◌, min, ◌≡◌, ◌↔◌, Bool, true, false, not, List, [], ◌∷◌, length, take, set, replicate}
 use Rattle.queue_record.specs.Record.{Sized}
-use Rattle.choice.specs.Choice.{if◌then◌else◌}
+use Rattle.choice.specs.Choice.{when◌then◌else◌}
 use Rattle.stage.specs.Bindings.{member, SameMembers}
 use Rattle.stage.specs.Phases.{phase_after, is_pending, is_cancelled}
 use Rattle.stage.specs.declared.phases.Phase.{Phase}
@@ -189,7 +189,7 @@ pub record Demand2 : Type 0 where
       × (phase_line Phase.Stopping ≡ 3 ∷ 4 ∷ 4 ∷ 3 ∷ 1 ∷ 0 ∷ 1 ∷ []) × (phase_line Phase.Closed ≡ 4 ∷ 4 ∷ 4 ∷ 4 ∷ 0 ∷ 1 ∷ 1 ∷ [])
   -- admit, end and cancel move the phase by the table of R28, and nothing else; admit only where a target is given that matches
   pub stage_leaves : (q : Queue) (matched : Bool) → StaysButPhase q (admitted q matched).queue × StaysButPhase q (ended q).queue × StaysButPhase q (cancelled_by q).queue
-  pub stage_moves : (q : Queue) (matched : Bool) → well_formed q ≡ true → ((admitted q matched).queue.phase ≡ (if matched then phase_after q.phase Event.Admit else q.phase))
+  pub stage_moves : (q : Queue) (matched : Bool) → well_formed q ≡ true → ((admitted q matched).queue.phase ≡ (when matched then phase_after q.phase Event.Admit else q.phase))
       × ((ended q).queue.phase ≡ phase_after q.phase Event.End) × ((cancelled_by q).queue.phase ≡ phase_after q.phase Event.Cancel)
   pub match_means : (q : Queue) (target : List ℕ) → (matches q target ≡ true) ↔ SameMembers target (committed q)
   -- what each call and each question says: the first refusal that is due with what it gives back, or 0 with its own values

@@ -7,7 +7,7 @@ use native.Mathlib.Omega.{arith}
 use native.Mathlib.Numerals.{add-one}
 use lib.ListN.{length, get_or, drop, drop_of_length-le}
 use lib.Seq.{drop-cons}
-use Rattle.choice.specs.Choice.{if◌then◌else◌}
+use Rattle.choice.specs.Choice.{when◌then◌else◌}
 use Rattle.choice.proofs.Ways.{hit, miss}
 use Rattle.queue_record.specs.Newest.{is_there}
 use Rattle.queue_record.specs.declared.search.Found.TheVariants.{At, Missing}
@@ -23,8 +23,8 @@ pub places_end : (ps : List Place) (i : ℕ) → length ps ≡ 16 → 16 ≤ i �
 places_end ps i l h = drop_of_length-le ps {i = i} (omega arith)
 
 module _ (says : Place → Bool) (ps : List Place) (i : ℕ) (l : length ps ≡ 16) where
-  first_step : i < 16 → first_from says i (drop i ps) ≡ (if says (get_or ps i nowhere) then At i else first_from says (i + 1) (drop (i + 1) ps))
-  first_step h = ap (first_from says i) (place_left ps i l h) ∙ ap (λ (k : ℕ). if says (get_or ps i nowhere) then At i else first_from says k (drop (i + 1) ps)) (sym (add-one i))
+  first_step : i < 16 → first_from says i (drop i ps) ≡ (when says (get_or ps i nowhere) then At i else first_from says (i + 1) (drop (i + 1) ps))
+  first_step h = ap (first_from says i) (place_left ps i l h) ∙ ap (λ (k : ℕ). when says (get_or ps i nowhere) then At i else first_from says k (drop (i + 1) ps)) (sym (add-one i))
 
   pub first_here : i < 16 → says (get_or ps i nowhere) ≡ true → At i ≡ first_from says i (drop i ps)
   first_here h e = sym (first_step h ∙ hit _ e)
@@ -41,6 +41,6 @@ there_from says j k [] = refl
 there_from says j k (p ∷ ps) = go (says p) (there_from says (suc j) (suc k) ps)
   where
     go : (b : Bool) → is_there (first_from says (suc j) ps) ≡ is_there (first_from says (suc k) ps)
-        → is_there (if b then At j else first_from says (suc j) ps) ≡ is_there (if b then At k else first_from says (suc k) ps)
+        → is_there (when b then At j else first_from says (suc j) ps) ≡ is_there (when b then At k else first_from says (suc k) ps)
     go true e = refl
     go false e = e

@@ -1,6 +1,6 @@
 -- What can be asked of one place: a line for each question
 use Rattle.std.specs.Prelude.{ℕ, ◌+◌, Bool, true, false, not, ◌&&◌, ◌||◌, List, eqb, leb}
-use Rattle.choice.specs.Choice.{if◌then◌else◌}
+use Rattle.choice.specs.Choice.{when◌then◌else◌}
 use Rattle.stage.specs.Phases.{is_pending, is_settled}
 use Rattle.queue_record.specs.WellFormed.{well_formed}
 use Rattle.queue_record.specs.Blank.{is_blank}
@@ -68,4 +68,4 @@ asks_free Unfinished id q = false
 asks_free Undrained id q = false
 
 abbrev pub asks_of : Question → List ℕ → Place → Bool
-asks_of question target p = if p.live then asks_live question p.id p.queue target else asks_free question p.id p.queue
+asks_of question target p = when p.live then asks_live question p.id p.queue target else asks_free question p.id p.queue

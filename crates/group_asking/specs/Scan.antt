@@ -1,6 +1,6 @@
 -- The first place that answers a question with yes
 use Rattle.std.specs.Prelude.{ℕ, suc, Bool, List, [], ◌∷◌}
-use Rattle.choice.specs.Choice.{if◌then◌else◌}
+use Rattle.choice.specs.Choice.{when◌then◌else◌}
 use Rattle.queue_record.specs.Newest.{is_there}
 use Rattle.queue_record.specs.declared.search.Found.{Found}
 use Rattle.queue_record.specs.declared.search.Found.TheVariants.{At, Missing}
@@ -12,7 +12,7 @@ use Rattle.group_asking.specs.Questions.{asks_of}
 -- the lowest place that says yes, where the first one's number is k
 abbrev pub first_from : (Place → Bool) → ℕ → List Place → Found
 first_from says k [] = Missing
-first_from says k (p ∷ ps) = if says p then At k else first_from says (suc k) ps
+first_from says k (p ∷ ps) = when says p then At k else first_from says (suc k) ps
 
 abbrev pub first_yes : Groups → Question → List ℕ → Found
 first_yes g question target = first_from (asks_of question target) 0 g.places

@@ -5,7 +5,7 @@ use mathlib.Core.Bool.{Bool, true, false, not}
 use mathlib.Core.List.{List, [], ◌∷◌}
 use native.Mathlib.Omega.{arith}
 use lib.ListN.{length}
-use Rattle.choice.specs.Choice.{if◌then◌else◌}
+use Rattle.choice.specs.Choice.{when◌then◌else◌}
 use Rattle.queue_record.specs.Refusals.{broken}
 use Rattle.queue_record.specs.declared.search.Found.{Found}
 use Rattle.queue_record.specs.declared.search.Found.TheVariants.{At, Missing}
@@ -22,7 +22,7 @@ found_below : (says : Place → Bool) (k : ℕ) (ps : List Place) (i : ℕ) → 
 found_below says k [] i e = let z : ◌≡◌ {A = ℕ} 0 1 = cc in absurd (omega arith)
 found_below says k (p ∷ ps) i e = go (says p) (found_below says (suc k) ps i) e
   where
-    go : (b : Bool) → (first_from says (suc k) ps ≡ At i → i < suc k + length ps) → (if b then At k else first_from says (suc k) ps) ≡ At i → i < k + suc (length ps)
+    go : (b : Bool) → (first_from says (suc k) ps ≡ At i → i < suc k + length ps) → (when b then At k else first_from says (suc k) ps) ≡ At i → i < k + suc (length ps)
     go true f q = let z : k ≡ i = cc in omega arith
     go false f q = let h : i < suc k + length ps = f q in omega arith
 
@@ -36,7 +36,7 @@ unfolding spot_of
 spot_means g id i e = go (well_grouped g) refl (first_yes g (Holds id) []) refl e
   where
     go : (w : Bool) → well_grouped g ≡ w → (f : Found) → first_yes g (Holds id) [] ≡ f
-        → (if not w then Spot.Refused broken else spot_at f) ≡ Spot.At i → (well_grouped g ≡ true) × (first_yes g (Holds id) [] ≡ At i)
+        → (when not w then Spot.Refused broken else spot_at f) ≡ Spot.At i → (well_grouped g ≡ true) × (first_yes g (Holds id) [] ≡ At i)
     go true w (At j) f q = let z : j ≡ i = cc in (w, f ∙ ap (λ (m : ℕ). At m) z)
     go true w Missing f q = let z : ◌≡◌ {A = ℕ} 0 1 = cc in absurd (omega arith)
     go false w f e q = let z : ◌≡◌ {A = ℕ} 0 1 = cc in absurd (omega arith)

@@ -1,6 +1,6 @@
 -- A group by its id: the first two checks of R64
 use Rattle.std.specs.Prelude.{ℕ, not, []}
-use Rattle.choice.specs.Choice.{if◌then◌else◌}
+use Rattle.choice.specs.Choice.{when◌then◌else◌}
 use Rattle.queue_record.specs.Openings.{blank}
 use Rattle.queue_record.specs.Refusals.{broken, no_group}
 use Rattle.queue_record.specs.declared.search.Found.{Found}
@@ -22,7 +22,7 @@ spot_at (At i) = Spot.At i
 
 -- 1, then 10
 unfoldable pub spot_of : Groups → ℕ → Spot
-spot_of g id = if not (well_grouped g) then Spot.Refused broken else spot_at (first_yes g (Holds id) [])
+spot_of g id = when not (well_grouped g) then Spot.Refused broken else spot_at (first_yes g (Holds id) [])
 
 -- R121: the queue at that place; beside a refusal the blank queue
 abbrev pub got_at : Groups → Spot → GetAnswer

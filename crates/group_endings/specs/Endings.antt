@@ -1,6 +1,6 @@
 -- Closing (R110, R111) and sealing (R112)
 use Rattle.std.specs.Prelude.{ℕ, not, []}
-use Rattle.choice.specs.Choice.{if◌then◌else◌}
+use Rattle.choice.specs.Choice.{when◌then◌else◌}
 use Rattle.queue_record.specs.Refusals.{not_drained}
 use Rattle.queue_record.specs.declared.openings.Opened.{Opened}
 use Rattle.queue_record.specs.declared.openings.Opened.TheVariants.{Open}
@@ -23,7 +23,7 @@ refused_close g refusal = record { answer = Closed.Refused refusal; groups = g }
 abbrev pub removed_at : Groups → Spot → CloseAnswer
 removed_at g (Spot.Refused refusal) = refused_close g refusal
 removed_at g (Spot.At i) =
-    if not (drained (queue_at g i)) then refused_close g not_drained else
+    when not (drained (queue_at g i)) then refused_close g not_drained else
     record { answer = Done; groups = with_place g i free_place }
 
 -- R110: closing: 1, 10, 13
@@ -33,7 +33,7 @@ removed g id = removed_at g (spot_of g id)
 abbrev pub sealed_by : Groups → Opened → CloseAnswer
 sealed_by g (Opened.Refused refusal) = refused_close g refusal
 sealed_by g Open =
-    if some_yes g Undrained [] then refused_close g not_drained else
+    when some_yes g Undrained [] then refused_close g not_drained else
     record { answer = Done; groups = sealing g }
 
 -- R112: sealing: 1, 12, 13; then all places are free

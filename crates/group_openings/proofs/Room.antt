@@ -7,7 +7,7 @@ use native.Mathlib.Omega.{arith}
 use borrow.Author.Tests.{leb-false}
 use lib.Dec.{leb}
 use lib.ListN.{length}
-use Rattle.choice.specs.Choice.{if◌then◌else◌}
+use Rattle.choice.specs.Choice.{when◌then◌else◌}
 use Rattle.choice.proofs.Ways.{miss}
 use Rattle.queue_record.specs.Refusals.{broken, sealed, no_id}
 use Rattle.queue_record.specs.declared.search.Found.{Found}
@@ -28,7 +28,7 @@ pub unsealed_means : (g : Groups) → unsealed g ≡ Open → (well_grouped g �
 unsealed_means g e = go (well_grouped g) refl g.sealed refl e
   where
     go : (w : Bool) → well_grouped g ≡ w → (s : Bool) → g.sealed ≡ s
-        → (if not w then Opened.Refused broken else if s then Opened.Refused sealed else Open) ≡ Open → (well_grouped g ≡ true) × (g.sealed ≡ false)
+        → (when not w then Opened.Refused broken else when s then Opened.Refused sealed else Open) ≡ Open → (well_grouped g ≡ true) × (g.sealed ≡ false)
     go true w false s q = (w, s)
     go true w true s q = let z : ◌≡◌ {A = ℕ} 0 1 = cc in absurd (omega arith)
     go false w s t q = let z : ◌≡◌ {A = ℕ} 0 1 = cc in absurd (omega arith)
@@ -44,7 +44,7 @@ domain_fits g e = let f : Fit g = fit g (unsealed_means g e).0 in omega arith
 pub room_means : (g : Groups) (i : ℕ) → room_of g ≡ Spot.At i → (first_yes g Free [] ≡ At i) × (g.next < 65536)
 room_means g i e = go (first_yes g Free []) refl e
   where
-    picked : (j : ℕ) (b : Bool) → leb ids g.next ≡ b → first_yes g Free [] ≡ At j → (if b then Spot.Refused no_id else Spot.At j) ≡ Spot.At i → (first_yes g Free [] ≡ At i) × (g.next < 65536)
+    picked : (j : ℕ) (b : Bool) → leb ids g.next ≡ b → first_yes g Free [] ≡ At j → (when b then Spot.Refused no_id else Spot.At j) ≡ Spot.At i → (first_yes g Free [] ≡ At i) × (g.next < 65536)
     picked j true n f q = let z : ◌≡◌ {A = ℕ} 0 1 = cc in absurd (omega arith)
     picked j false n f q = let z : j ≡ i = cc in (cc, leb-false _ _ n)
 

@@ -1,6 +1,6 @@
 -- A new record (R99, R100), and the openings of groups (R107, R108)
 use Rattle.std.specs.Prelude.{ℕ, ◌+◌, not, List, [], leb, ltb}
-use Rattle.choice.specs.Choice.{if◌then◌else◌}
+use Rattle.choice.specs.Choice.{when◌then◌else◌}
 use Rattle.queue_record.specs.declared.search.Found.{Found}
 use Rattle.queue_record.specs.declared.search.Found.TheVariants.{At, Missing}
 use Rattle.queue_record.specs.Refusals.{broken, groups_full, sealed, no_id}
@@ -24,20 +24,20 @@ use Rattle.group_openings.specs.declared.openings.AddAnswer.{AddAnswer}
 -- open as id 0, whose domain is the base
 unfoldable pub new_of : ℕ → NewAnswer
 new_of base =
-    if ltb last_base base then record { answer = Opened.Refused no_id; groups = empty_of 0 } else
+    when ltb last_base base then record { answer = Opened.Refused no_id; groups = empty_of 0 } else
     record { answer = Open; groups = with_opened (empty_of base) 0 (scope_of base 0) }
 
 -- 1, then 12
 abbrev pub unsealed : Groups → Opened
 unsealed g =
-    if not (well_grouped g) then Opened.Refused broken else
-    if g.sealed then Opened.Refused sealed else
+    when not (well_grouped g) then Opened.Refused broken else
+    when g.sealed then Opened.Refused sealed else
     Open
 
 -- R63: 11 with sixteen live, then 19 with no id left
 abbrev pub room_at : Groups → Found → Spot
 room_at g Missing = Spot.Refused groups_full
-room_at g (At i) = if leb ids g.next then Spot.Refused no_id else Spot.At i
+room_at g (At i) = when leb ids g.next then Spot.Refused no_id else Spot.At i
 
 -- R107: the lowest free place
 abbrev pub room_of : Groups → Spot

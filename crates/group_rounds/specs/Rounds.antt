@@ -1,6 +1,6 @@
 -- R117: retry of every failed group, as upstream's visible body does it
 use Rattle.std.specs.Prelude.{not, ◌&&◌, List, [], ◌∷◌}
-use Rattle.choice.specs.Choice.{if◌then◌else◌}
+use Rattle.choice.specs.Choice.{when◌then◌else◌}
 use Rattle.queue_record.specs.Refusals.{broken}
 use Rattle.queue_questions.specs.declared.questions.Told.{Told}
 use Rattle.queue_questions.specs.declared.questions.Told.TheVariants.{Yes, No}
@@ -14,7 +14,7 @@ use Rattle.group_rounds.specs.declared.rounds.RetryAllAnswer.{RetryAllAnswer}
 
 -- a live place whose group has failed is retried as a queue; any other stays
 abbrev pub retried_place : Place → Place
-retried_place p = if p.live && p.queue.failed then holding p (retried p.queue).queue else p
+retried_place p = when p.live && p.queue.failed then holding p (retried p.queue).queue else p
 
 abbrev pub retried_places : List Place → List Place
 retried_places [] = []
@@ -29,6 +29,6 @@ round_done answer g = record { answer = answer; groups = g }
 -- 1; no and nothing changed unless can_retry_all; else yes, and every failed group is retried
 unfoldable pub retried_all : Groups → RetryAllAnswer
 retried_all g =
-    if not (well_grouped g) then round_done (Told.Refused broken) g else
-    if not (retries_all g) then round_done No g else
+    when not (well_grouped g) then round_done (Told.Refused broken) g else
+    when not (retries_all g) then round_done No g else
     round_done Yes (all_retried g)

@@ -1,7 +1,7 @@
 -- The calls that ask of the whole record (R115 to R120), among them upstream's contains, is_empty, len and
 -- can_add_iterator; R123: 1 alone refuses them
 use Rattle.std.specs.Prelude.{ℕ, Bool, not, ◌&&◌, List, [], ltb}
-use Rattle.choice.specs.Choice.{if◌then◌else◌}
+use Rattle.choice.specs.Choice.{when◌then◌else◌}
 use Rattle.queue_record.specs.Refusals.{broken}
 use Rattle.queue_questions.specs.Questions.{yes_or_no}
 use Rattle.queue_questions.specs.declared.questions.Told.{Told}
@@ -14,7 +14,7 @@ use Rattle.group_survey.specs.declared.whole.LenTold.{LenTold}
 
 -- a question put to a record: 1 if it is not well formed, else the answer
 abbrev pub told_of : Groups → Bool → Told
-told_of g answer = if not (well_grouped g) then Told.Refused broken else yes_or_no answer
+told_of g answer = when not (well_grouped g) then Told.Refused broken else yes_or_no answer
 
 -- R120: contains, the id is live
 abbrev pub contains_told : Groups → ℕ → Told
@@ -60,4 +60,4 @@ can_add_of g = told_of g (room_for g)
 
 -- R120: len, how many groups are live
 abbrev pub len_of : Groups → LenTold
-len_of g = if not (well_grouped g) then LenTold.Refused broken else LenTold.Live (live_count g.places)
+len_of g = when not (well_grouped g) then LenTold.Refused broken else LenTold.Live (live_count g.places)

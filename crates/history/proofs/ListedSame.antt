@@ -59,7 +59,8 @@ in_front_lem xs h m l = record { calls = xs ++ l.calls; given = every_append wor
 by_calls : {a b : Bench} (ds : List Deed) → Did a ds b → every words_in ds ≡ true → ByCalls a b
 by_calls [] did_nothing h = record { calls = []; given = refl; made = called_none }
 by_calls {a = a} (makes_call c ∷ ds) (did_call z d) h =
-    in_front_lem (c ∷ []) (pass _ (and_left (words_given c) (every words_in ds) h)) (called_one z called_none) (by_calls {a = called a (call_on a.queue c)} ds d (and_right (words_given c) (every words_in ds) h))
+    in_front_lem (c ∷ []) (pass _ (and_left (words_given c) (every words_in ds) h)) (called_one z called_none)
+    (by_calls {a = called a (call_on a.queue c)} ds d (and_right (words_given c) (every words_in ds) h))
 by_calls {a = a} (takes_list ns ∷ ds) (did_list d) h =
     in_front_lem (registers_by (take (list_answer a ns).taken ns)) (registers_given (list_answer a ns).taken ns (and_left (every is_word ns) (every words_in ds) h))
     (made_called (take (list_answer a ns).taken ns) (list_made a ns)) (by_calls {a = listed_to a ns} ds d (and_right (every is_word ns) (every words_in ds) h))

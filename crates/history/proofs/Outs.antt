@@ -4,7 +4,7 @@ use mathlib.Core.Path.{◌≡◌, refl, ap}
 use mathlib.Core.Bool.{Bool, true, false}
 use native.Mathlib.Omega.{arith}
 use lib.ListN.{length}
-use Rattle.choice.specs.Choice.{if◌then◌else◌}
+use Rattle.choice.specs.Choice.{when◌then◌else◌}
 use Rattle.choice.proofs.Ways.{clash}
 use Rattle.queue_record.specs.WellFormed.{marks_fit, is_selected}
 use Rattle.queue_record.specs.declared.record.Selection.{Selection}
@@ -21,7 +21,7 @@ use Rattle.history.specs.Histories.{Bench, Start, History, rows_of, setting, out
 use Rattle.history.proofs.Spoken.{Stands, stands, history_belongs}
 
 -- ---- at most one undo is out
-out_is : (x : Selection) (f i : Bool) → marks_fit (is_selected x) f i ≡ true → outs (selected_of x f i) ≡ (if i then 1 else 0)
+out_is : (x : Selection) (f i : Bool) → marks_fit (is_selected x) f i ≡ true → outs (selected_of x f i) ≡ (when i then 1 else 0)
 out_is Free true true h = clash h refl
 out_is Free true false h = refl
 out_is Free false true h = clash h refl

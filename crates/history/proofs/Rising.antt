@@ -17,5 +17,6 @@ pub history_grants : (s : Start) (b : Bench) → History s b → (k : ℕ) (d : 
 history_grants s b h k d l = attempts_at (setting s).first (grants (rows_of b)) (history_belongs s b h).attempts_in_order.0 k d l
 
 -- attempts handed out rise by 1 from the first: the pop at place k, fresh or ready, carries first + k
-pub history_attempts : (s : Start) (b : Bench) → History s b → (k : ℕ) (d : Row) → k < length (keep (is pop) (rows_of b)) → (get_or (keep (is pop) (rows_of b)) k d).attempt ≡ s.opening.heading.first + k
+pub history_attempts : (s : Start) (b : Bench) → History s b → (k : ℕ) (d : Row) → k < length (keep (is pop) (rows_of b))
+    → (get_or (keep (is pop) (rows_of b)) k d).attempt ≡ s.opening.heading.first + k
 history_attempts s b h k d l = pops_carry (setting s) (rows_of b) (history_belongs s b h) k d l

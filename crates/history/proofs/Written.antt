@@ -6,7 +6,7 @@ use mathlib.Core.Logic.{⊎_elim}
 use mathlib.Core.List.{List}
 use lib.Dec.{eqb}
 use borrow.Author.Tests.{eq-eqb, ne_eqb}
-use Rattle.choice.specs.Choice.{if◌then◌else◌}
+use Rattle.choice.specs.Choice.{when◌then◌else◌}
 use Rattle.choice.proofs.Ways.{hit, miss, through, clash}
 use Rattle.queue_record.specs.Refusals.{done}
 use Rattle.queue_record.specs.declared.record.Queue.{Queue}
@@ -38,7 +38,7 @@ benches e f g = rw (e, f, g)
 
 -- where a note leaves a bench, p being what the plain call leaves
 abbrev bench_by : Bench → Queue → Note → Bench
-bench_by b p n = if eqb n.refusal 0 then bench p n.used n.log else bench b.queue n.used n.log
+bench_by b p n = when eqb n.refusal 0 then bench p n.used n.log else bench b.queue n.used n.log
 
 abbrev Noted : Bench → Queue → Entry → Outcome → Type 0
 Noted b p e o = (o.number ≡ (noted b.log b.used e).refusal) × (o.bench ≡ bench_by b p (noted b.log b.used e))

@@ -6,7 +6,7 @@ use mathlib.Core.List.{List, [], ◌∷◌}
 use native.Mathlib.Omega.{arith}
 use borrow.Author.Tests.{ne_eqb}
 use lib.Dec.{eqb}
-use Rattle.choice.specs.Choice.{if◌then◌else◌}
+use Rattle.choice.specs.Choice.{when◌then◌else◌}
 use Rattle.choice.proofs.Ways.{miss, if_by}
 use Rattle.stage.specs.Phases.{is_pending, is_settled, is_cancelled}
 use Rattle.queue_record.specs.Refusals.{done}
@@ -43,12 +43,12 @@ use Rattle.gulberzan_c.specs.Recorded.{admit_recorded_by, end_recorded_on, cance
 use Rattle.library_laws.specs.Values.{plain_words, work_words, yes_no_words, written_as}
 
 -- ---- the words of each answer; a refusal's number is not 0
-refused_case : (n : ℕ) → (n ≡ done → ⊥) → ◌≡◌ {A = ℕ} 0 (if eqb n done then 1 else 0)
+refused_case : (n : ℕ) → (n ≡ done → ⊥) → ◌≡◌ {A = ℕ} 0 (when eqb n done then 1 else 0)
 refused_case n z = sym (miss 1 (ne_eqb n 0 z))
 
 module _ (ws : List ℕ) where
   -- a refusal as it is written, with what it gives back
-  refused_written : (n given : ℕ) → (n ≡ done → ⊥) → refused_on n given ws ≡ exported n ((if eqb n done then 1 else 0) ∷ given ∷ 0 ∷ 0 ∷ 0 ∷ []) ws
+  refused_written : (n given : ℕ) → (n ≡ done → ⊥) → refused_on n given ws ≡ exported n ((when eqb n done then 1 else 0) ∷ given ∷ 0 ∷ 0 ∷ 0 ∷ []) ws
   refused_written n given z = ap (λ (k : ℕ). exported n (k ∷ given ∷ 0 ∷ 0 ∷ 0 ∷ []) ws) (refused_case n z)
 
   born_written : (a : Registered) → ((given : ℕ) → a ≡ Registered.Refused done given → ⊥) → born_said a ws ≡ written_as plain_words (registered_says a) ws

@@ -40,7 +40,8 @@ module _ (ws : List ℕ) (s : is_sound ws ≡ true) (out : mark_at (word ws at_i
   unfolding complete_on queue_of
   own_settles outcome kept l k =
       ap (λ (x : Exported). x.result) (sound_on ws s kept _)
-      ∙ ap (λ (a : Completed). (complete_said a (words_of (completed (queue_of ws) (ticket_of (word ws at_ticket_domain) (word ws at_ticket_token) (word ws at_ticket_attempt)) outcome kept).queue)).result)
+      ∙ ap (λ (a : Completed). (complete_said a (words_of (completed (queue_of ws) (ticket_of (word ws at_ticket_domain) (word ws at_ticket_token) (word ws at_ticket_attempt))
+      outcome kept).queue)).result)
       (complete_succeeds (queue_of ws) (ticket_of (word ws at_ticket_domain) (word ws at_ticket_token) (word ws at_ticket_attempt)) outcome kept (sound_fits ws s) out own_selected l k)
 
 -- ---- the ticket as pop answers it

@@ -8,7 +8,7 @@ use native.Mathlib.Omega.{arith}
 use borrow.Author.Tests.{eq-eqb, not-true}
 use lib.Dec.{eqb}
 use lib.ListN.{length}
-use Rattle.choice.specs.Choice.{if◌then◌else◌}
+use Rattle.choice.specs.Choice.{when◌then◌else◌}
 use Rattle.choice.proofs.Ways.{hit, miss, clash, and_left, and_right}
 use Rattle.queue_record.specs.Refusals.{broken, too_many_bindings}
 use Rattle.queue_record.specs.WellFormed.{well_formed}
@@ -55,7 +55,7 @@ none_due : (ds : List Ground) → without_one ds ≡ true → first_due ds ≡ b
 none_due [] k e = omega arith
 none_due (d ∷ ds) k e = go d.case e (none_due ds (and_right (not (eqb d.number 1)) (without_one ds) k))
   where
-    go : (b : Bool) → (if b then d.number else first_due ds) ≡ 1 → (first_due ds ≡ 1 → ⊥) → ⊥
+    go : (b : Bool) → (when b then d.number else first_due ds) ≡ 1 → (first_due ds ≡ 1 → ⊥) → ⊥
     go true z rest = clash (eq-eqb d.number 1 z) (not-true _ (and_left (not (eqb d.number 1)) (without_one ds) k))
     go false z rest = rest z
 

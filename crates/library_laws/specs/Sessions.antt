@@ -1,6 +1,6 @@
 -- A bench that only calls the library: its queue's words, its log's words and its used rows
 use Rattle.std.specs.Prelude.{ℕ, ◌*◌, ◌≡◌, List, [], ◌∷◌, ltb, take}
-use Rattle.choice.specs.Choice.{if◌then◌else◌}
+use Rattle.choice.specs.Choice.{when◌then◌else◌}
 use Rattle.queue_record.specs.Refusals.{done}
 use Rattle.queue_record.specs.Openings.{Opening, heading_of, opening_of, scope_opened, iterator_opened, opened_as}
 use Rattle.queue_record.specs.declared.openings.Opened.{Opened}
@@ -61,7 +61,7 @@ session_after s (registers_all numbers) = session (register_all_on s.words numbe
 session_after s (records c) = logged_to (logged_by s c)
 session_after s (records_all numbers) = logged_to (logged_all s numbers)
 session_after s (reads kind domain first bindings log) =
-    if ltb 1 kind then s else session (words_of (read_from (opened_as (opening_by kind domain first bindings)) log).queue) s.log s.used
+    when ltb 1 kind then s else session (words_of (read_from (opened_as (opening_by kind domain first bindings)) log).queue) s.log s.used
 
 abbrev pub session_after_all : Session → List LibraryCall → Session
 session_after_all s [] = s

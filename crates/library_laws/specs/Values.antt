@@ -1,6 +1,6 @@
 -- The values of an answer as the library writes them: behind the case, four of them
 use Rattle.std.specs.Prelude.{ℕ, suc, List, [], ◌∷◌, ◌++◌, eqb, length, take, drop, replicate, ◌≡◌}
-use Rattle.choice.specs.Choice.{if◌then◌else◌}
+use Rattle.choice.specs.Choice.{when◌then◌else◌}
 use Rattle.queue_record.specs.Refusals.{done}
 use Rattle.cleanup_queue.specs.Answers.{Said, says}
 use Rattle.log_reader.specs.Reader.{read_says}
@@ -23,15 +23,15 @@ pub record TellsWords (x : Exported) (s : Said) : Type 0 where
 -- ---- an answer's five words, by what is said: the case is 0 for a refusal
 -- register, land, complete, retry, cancel and domain: 1 for done, and the values
 abbrev pub plain_words : Said → List ℕ
-plain_words s = (if eqb s.number done then 1 else 0) ∷ padded s.values
+plain_words s = (when eqb s.number done then 1 else 0) ∷ padded s.values
 
 -- pop: 1 for nothing, 2 for work, which has values
 abbrev pub work_words : Said → List ℕ
-work_words s = (if eqb s.number done then (if eqb (length s.values) 0 then 1 else 2) else 0) ∷ padded s.values
+work_words s = (when eqb s.number done then (when eqb (length s.values) 0 then 1 else 2) else 0) ∷ padded s.values
 
 -- admit, end and the questions: 1 for no, 2 for yes, and no value
 abbrev pub yes_no_words : Said → List ℕ
-yes_no_words s = (if eqb s.number done then suc (word s.values 0) else 0) ∷ padded []
+yes_no_words s = (when eqb s.number done then suc (word s.values 0) else 0) ∷ padded []
 
 -- what a call hands back that says s, in one of these forms, and leaves these words
 abbrev pub written_as : (Said → List ℕ) → Said → List ℕ → Exported

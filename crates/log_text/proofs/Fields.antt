@@ -8,7 +8,7 @@ use lib.ListN.{length, take, drop, get_or, length-append, take-append-drop}
 use lib.Seq.{take-suc, take_all, length-take-le}
 use Rattle.csv_lines.specs.Form.{decimal, field}
 use Rattle.log_text.specs.Report.{pasted, fields}
-use Rattle.log_text.proofs.DecimalLength.{decimal_short}
+use Rattle.log_text.proofs.KitDigits.{decimal_short}
 use Rattle.log_text.proofs.Pasting.{puts_join, pasted_length}
 
 fields_snoc : (ns : List ℕ) (n : ℕ) → fields (ns ++ (n ∷ [])) ≡ fields ns ++ field n

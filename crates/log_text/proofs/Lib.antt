@@ -1,5 +1,5 @@
 pub mod Pasting
-pub mod DecimalLength
+pub mod KitDigits
 pub mod Fields
 pub mod Reported
 pub mod Answered

@@ -1,6 +1,6 @@
 -- Register and land (R38 to R40); what refuses them is decided in queue_decisions
 use Rattle.std.specs.Prelude.{ℕ, ◌+◌, not, eqb}
-use Rattle.choice.specs.Choice.{if◌then◌else◌}
+use Rattle.choice.specs.Choice.{when◌then◌else◌}
 use Rattle.stage.specs.Phases.{phase_after}
 use Rattle.stage.specs.declared.phases.Event.TheVariants.{Land}
 use Rattle.queue_record.specs.Refusals.{broken}
@@ -25,12 +25,12 @@ born q after = record { answer = Token q.count; queue = after }
 
 -- born into the record after it, or refused with the number given
 abbrev pub born_by : Queue → ℕ → Queue → ℕ → RegisterAnswer
-born_by q number after refusal = if eqb refusal 0 then born q after else refused_birth q refusal number
+born_by q number after refusal = when eqb refusal 0 then born q after else refused_birth q refusal number
 
 -- R38, R39: whatever the phase. Order 1, 2, 3
 unfoldable pub registered : Queue → ℕ → RegisterAnswer
 registered q number =
-    if not (well_formed q) then refused_birth q broken number else
+    when not (well_formed q) then refused_birth q broken number else
     born_by q number (grown q number) (register_refusal number q.count)
 
 -- R40: as grown, and the stage moves
@@ -40,5 +40,5 @@ landed_to q number = with_phase (grown q number) (phase_after q.phase Land)
 -- R40: only while the stage is pending. Order 1, 2, 4, 3
 unfoldable pub landed : Queue → ℕ → RegisterAnswer
 landed q number =
-    if not (well_formed q) then refused_birth q broken number else
+    when not (well_formed q) then refused_birth q broken number else
     born_by q number (landed_to q number) (land_refusal number q.phase q.count)

@@ -1,6 +1,6 @@
 -- R144 to R147: a whole list registered: as if each number were registered in turn, up to the first refusal
 use Rattle.std.specs.Prelude.{ℕ, suc, not, List, [], ◌∷◌}
-use Rattle.choice.specs.Choice.{if◌then◌else◌}
+use Rattle.choice.specs.Choice.{when◌then◌else◌}
 use Rattle.queue_record.specs.Refusals.{done, broken}
 use Rattle.queue_record.specs.WellFormed.{well_formed}
 use Rattle.queue_record.specs.declared.record.Queue.{Queue}
@@ -34,7 +34,7 @@ in_turn q (number ∷ rest) = until_refused (registered q number).answer (regist
 
 -- 1 is asked first, of an empty list too; then as each number's register
 unfoldable pub registered_all : Queue → List ℕ → RegisterAllAnswer
-registered_all q numbers = if not (well_formed q) then took_none q broken else in_turn q numbers
+registered_all q numbers = when not (well_formed q) then took_none q broken else in_turn q numbers
 
 -- ---- what the code does
 -- a token more for each number

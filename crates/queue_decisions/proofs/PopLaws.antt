@@ -6,7 +6,7 @@ use mathlib.Core.List.{List}
 use native.Mathlib.Omega.{arith}
 use lib.Dec.{eqb, leb}
 use lib.ListN.{length, take}
-use Rattle.choice.specs.Choice.{if◌then◌else◌}
+use Rattle.choice.specs.Choice.{when◌then◌else◌}
 use Rattle.choice.proofs.Ways.{if_by}
 use Rattle.queue_record.specs.WellFormed.{rest_zero}
 use Rattle.queue_record.specs.Waiting.{occupied}
@@ -27,7 +27,7 @@ unless_nothing true = refl
 unless_nothing false = refl
 
 -- mark by mark, and both at once
-pub marks_once : (issued failed : Bool) (d : Due) → (if issued then Due.Nothing else if failed then Due.Nothing else d) ≡ unless (is_marked issued failed) d
+pub marks_once : (issued failed : Bool) (d : Due) → (when issued then Due.Nothing else when failed then Due.Nothing else d) ≡ unless (is_marked issued failed) d
 marks_once true failed d = refl
 marks_once false failed d = refl
 

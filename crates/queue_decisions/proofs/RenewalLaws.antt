@@ -6,7 +6,7 @@ use mathlib.Core.List.{List}
 use native.Mathlib.Omega.{arith}
 use borrow.Author.Tests.{lt-ltb, le-ltb, eqb-false, ltb-true, leb-true, leb-false}
 use lib.Dec.{eqb, leb, ltb}
-use Rattle.choice.specs.Choice.{if◌then◌else◌}
+use Rattle.choice.specs.Choice.{when◌then◌else◌}
 use Rattle.choice.proofs.Ways.{hit, and_right, if_by}
 use Rattle.queue_record.specs.Refusals.{done, no_retry, nothing_kept, no_further_attempt}
 use Rattle.queue_record.specs.declared.record.Ticket.{Ticket}
@@ -25,7 +25,7 @@ allowed_unrefused false number next = refl
 allowed_unrefused true number next = by (eqb number 0) (leb no_more next) refl
   where
     by : (empty over : Bool) → leb no_more next ≡ over
-        → (not empty && ltb next no_more) ≡ eqb (if empty then nothing_kept else if over then no_further_attempt else done) done
+        → (not empty && ltb next no_more) ≡ eqb (when empty then nothing_kept else when over then no_further_attempt else done) done
     by true over e = refl
     by false true e = le-ltb next no_more (leb-true no_more next e)
     by false false e = lt-ltb next no_more (leb-false no_more next e)

@@ -1,6 +1,6 @@
 -- R64: what refuses the answer to a ticket, in its order behind 1
 use Rattle.std.specs.Prelude.{ℕ, Bool, false, not, ◌&&◌, eqb, ltb}
-use Rattle.choice.specs.Choice.{if◌then◌else◌}
+use Rattle.choice.specs.Choice.{when◌then◌else◌}
 use Rattle.queue_record.specs.Refusals.{done, bad_outcome, not_out, kept_on_done}
 use Rattle.queue_record.specs.declared.record.Ticket.{Ticket}
 use Rattle.queue_record.specs.declared.record.Selection.{Selection}
@@ -25,7 +25,7 @@ keeps_on_done outcome kept = eqb outcome 0 && not (eqb kept 0)
 -- complete: 15, 6, 7
 unfoldable pub complete_refusal : Bool → Selection → Ticket → ℕ → ℕ → ℕ
 complete_refusal issued selection ticket outcome kept =
-    if ltb 1 outcome then bad_outcome else
-    if not (is_out issued selection ticket) then not_out else
-    if keeps_on_done outcome kept then kept_on_done else
+    when ltb 1 outcome then bad_outcome else
+    when not (is_out issued selection ticket) then not_out else
+    when keeps_on_done outcome kept then kept_on_done else
     done

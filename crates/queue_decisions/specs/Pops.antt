@@ -1,6 +1,6 @@
 -- R41 to R47: what pop hands out, with its refusals in the order of R64 behind 1
 use Rattle.std.specs.Prelude.{ℕ, ◌+◌, Bool, ◌||◌, List, eqb, leb}
-use Rattle.choice.specs.Choice.{if◌then◌else◌}
+use Rattle.choice.specs.Choice.{when◌then◌else◌}
 use Rattle.queue_record.specs.Refusals.{no_attempt, hollow}
 use Rattle.queue_record.specs.Waiting.{occupied}
 use Rattle.queue_record.specs.Newest.{newest}
@@ -30,8 +30,8 @@ fresh_of domain token next = record { domain = domain; token = token; attempt = 
 -- R45: by the number in its slot; next rises by 1. Order 9, 5
 abbrev pub fresh_by : ℕ → ℕ → ℕ → ℕ → Due
 fresh_by token number domain next =
-    if eqb number 0 then Due.Refused hollow else
-    if leb no_more next then Due.Refused no_attempt else
+    when eqb number 0 then Due.Refused hollow else
+    when leb no_more next then Due.Refused no_attempt else
     Due.Of (fresh_of domain token next) number (next + 1)
 
 -- R44: Nothing where none waits
@@ -42,7 +42,7 @@ fresh_due (At token) number domain next = fresh_by token number domain next
 -- R46: the ready ticket keeps its attempt
 abbrev pub ready_by : Ticket → ℕ → ℕ → Due
 ready_by ticket number next =
-    if eqb number 0 then Due.Refused hollow else
+    when eqb number 0 then Due.Refused hollow else
     Due.Of ticket number next
 
 -- R42, R43: the ready ticket, or else the newest waiting token
@@ -56,11 +56,11 @@ is_marked issued failed = issued || failed
 
 -- Nothing where that is so
 abbrev pub unless : Bool → Due → Due
-unless rests due = if rests then Due.Nothing else due
+unless rests due = when rests then Due.Nothing else due
 
 -- R41: Nothing while a mark stands
 unfoldable pub pop_due : Bool → Bool → Selection → Found → ℕ → ℕ → ℕ → Due
 pop_due issued failed selection found number domain next =
-    if issued then Due.Nothing else
-    if failed then Due.Nothing else
+    when issued then Due.Nothing else
+    when failed then Due.Nothing else
     due_by found number domain next selection

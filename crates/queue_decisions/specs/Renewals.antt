@@ -1,6 +1,6 @@
 -- What refuses a retry (R54, R63), and the ticket renewed (R55)
 use Rattle.std.specs.Prelude.{ℕ, Bool, false, not, ◌&&◌, List, eqb, leb, ltb}
-use Rattle.choice.specs.Choice.{if◌then◌else◌}
+use Rattle.choice.specs.Choice.{when◌then◌else◌}
 use Rattle.queue_record.specs.Refusals.{done, no_retry, nothing_kept, no_further_attempt}
 use Rattle.queue_record.specs.declared.record.Ticket.{Ticket}
 use Rattle.queue_record.specs.declared.record.Selection.{Selection}
@@ -20,9 +20,9 @@ allowed_by failed slots next (Of t) = may_retry failed (slot_in slots t.token) n
 -- retry: 8 where nothing has failed, 20 where its slot keeps nothing, 21 where no attempt is left
 abbrev pub retry_refusal : Bool → ℕ → ℕ → ℕ
 retry_refusal failed number next =
-    if not failed then no_retry else
-    if eqb number 0 then nothing_kept else
-    if leb no_more next then no_further_attempt else
+    when not failed then no_retry else
+    when eqb number 0 then nothing_kept else
+    when leb no_more next then no_further_attempt else
     done
 
 -- R55: the ticket takes next
@@ -31,7 +31,7 @@ renewed_of t next = record { domain = t.domain; token = t.token; attempt = next 
 
 -- where nothing refuses it, the ticket
 abbrev pub renewed_unless : ℕ → Ticket → Renewal
-renewed_unless refusal t = if eqb refusal done then Renewal.Of t else Renewal.Refused refusal
+renewed_unless refusal t = when eqb refusal done then Renewal.Of t else Renewal.Refused refusal
 
 -- of what is selected; where nothing is, nothing has failed
 abbrev pub due_again : Bool → List ℕ → ℕ → Selection → Renewal

@@ -1,6 +1,6 @@
 -- R65: the yes-or-no calls and domain: 1 alone refuses them
 use Rattle.std.specs.Prelude.{ℕ, Bool, true, false, not, ◌&&◌, List, [], ◌∷◌, take}
-use Rattle.choice.specs.Choice.{if◌then◌else◌}
+use Rattle.choice.specs.Choice.{when◌then◌else◌}
 use Rattle.stage.specs.Phases.{is_pending, is_settled, is_cancelled}
 use Rattle.stage.specs.Bindings.{same_set}
 use Rattle.stage.specs.declared.phases.Phase.{Phase}
@@ -22,7 +22,7 @@ yes_or_no false = No
 
 -- a question put to a record: 1 if it is not well formed, else the answer
 abbrev pub asked : Queue → Bool → Told
-asked q answer = if not (well_formed q) then Refused broken else yes_or_no answer
+asked q answer = when not (well_formed q) then Refused broken else yes_or_no answer
 
 -- R57: is_empty: nothing waiting and nothing selected
 abbrev pub nothing_left : Selection → List ℕ → Bool
@@ -68,4 +68,4 @@ unfoldable pub can_finish_told : Queue → List ℕ → Told
 can_finish_told q target = asked q (finishable q.selection q.phase target (committed q))
 
 unfoldable pub domain_told : Queue → DomainTold
-domain_told q = if not (well_formed q) then DomainTold.Refused broken else Is q.domain
+domain_told q = when not (well_formed q) then DomainTold.Refused broken else Is q.domain

@@ -9,7 +9,7 @@ use native.Mathlib.Numerals.{add-one}
 use borrow.Author.Tests.{ne_eqb, eqb-false, ltb-true, ltb-false}
 use lib.Dec.{eqb, ltb}
 use lib.ListN.{length, get_or, get_or-eq_default}
-use Rattle.choice.specs.Choice.{if◌then◌else◌}
+use Rattle.choice.specs.Choice.{when◌then◌else◌}
 use Rattle.queue_record.specs.WellFormed.{all_zero, rest_zero}
 use Rattle.queue_record.specs.Waiting.{occupied, without}
 use Rattle.queue_record.proofs.Zeros.{zero_pass}
@@ -67,7 +67,7 @@ seen : (xs : List ℕ) (k j : ℕ) (f : Found) → last_or f (occupied k xs) ≡
 seen [] k j f h = inl h
 seen (x ∷ xs) k j f h = go (eqb x 0) refl h (seen xs (suc k) j f) (seen xs (suc k) j (At k))
   where
-    go : (b : Bool) → eqb x 0 ≡ b → last_or f (if b then occupied (suc k) xs else k ∷ occupied (suc k) xs) ≡ At j
+    go : (b : Bool) → eqb x 0 ≡ b → last_or f (when b then occupied (suc k) xs else k ∷ occupied (suc k) xs) ≡ At j
         → (last_or f (occupied (suc k) xs) ≡ At j → (f ≡ At j) ⊎ Seen xs (suc k) j)
         → (last_or (At k) (occupied (suc k) xs) ≡ At j → (At k ≡ At j) ⊎ Seen xs (suc k) j) → (f ≡ At j) ⊎ Seen (x ∷ xs) k j
     go true e h r r' = ⊎_elim (λ p. inl p) (λ s. inr (later x xs k j s)) (r h)
@@ -112,10 +112,10 @@ last_apart (x ∷ xs) k j h = go (eqb x 0) h (last_apart xs (suc k) j) (λ e. se
     first [] h r n = let e : k ≡ j = cc in ap (λ (m : ℕ). m ∷ []) e ∙ ap (λ (l : List ℕ). l ++ (j ∷ [])) (sym (without_skip j k [] e))
     first (r₀ ∷ rs) h r n = ap (λ (l : List ℕ). k ∷ l) (r h) ∙ ap (λ (l : List ℕ). l ++ (j ∷ [])) (sym (without_keep j k (r₀ ∷ rs) (λ e. n h (sym e))))
 
-    go : (b : Bool) → last_or Missing (if b then occupied (suc k) xs else k ∷ occupied (suc k) xs) ≡ At j
+    go : (b : Bool) → last_or Missing (when b then occupied (suc k) xs else k ∷ occupied (suc k) xs) ≡ At j
         → (last_or Missing (occupied (suc k) xs) ≡ At j → occupied (suc k) xs ≡ without j (occupied (suc k) xs) ++ (j ∷ []))
         → (last_or Missing (occupied (suc k) xs) ≡ At j → Seen xs (suc k) j)
-        → (if b then occupied (suc k) xs else k ∷ occupied (suc k) xs) ≡ without j (if b then occupied (suc k) xs else k ∷ occupied (suc k) xs) ++ (j ∷ [])
+        → (when b then occupied (suc k) xs else k ∷ occupied (suc k) xs) ≡ without j (when b then occupied (suc k) xs else k ∷ occupied (suc k) xs) ++ (j ∷ [])
     go true h r s = r h
     go false h r s = first (occupied (suc k) xs) h r (λ e p. let w = s e in let q : j ≡ suc k + w.0 = w.1 in omega arith)
 

@@ -8,7 +8,7 @@ use borrow.Author.Tests.{eq-eqb, ne_eqb}
 use lib.Dec.{eqb}
 use lib.ListN.{length, set, take}
 use lib.Seq.{set-set}
-use Rattle.choice.specs.Choice.{if◌then◌else◌}
+use Rattle.choice.specs.Choice.{when◌then◌else◌}
 use Rattle.choice.proofs.Ways.{hit, miss, and_left, and_right}
 use Rattle.queue_record.specs.WellFormed.{all_zero, rest_zero}
 use Rattle.queue_record.specs.Waiting.{occupied, without}
@@ -24,7 +24,7 @@ occupied_full k x xs e = miss _ e
 pub by_first : (P : List ℕ → Type 0) (k x : ℕ) (xs : List ℕ) → (eqb x 0 ≡ true → P (occupied (suc k) xs)) → (eqb x 0 ≡ false → P (k ∷ occupied (suc k) xs)) → P (occupied k (x ∷ xs))
 by_first P k x xs f g = go (eqb x 0) refl
   where
-    go : (b : Bool) → eqb x 0 ≡ b → P (if b then occupied (suc k) xs else k ∷ occupied (suc k) xs)
+    go : (b : Bool) → eqb x 0 ≡ b → P (when b then occupied (suc k) xs else k ∷ occupied (suc k) xs)
     go true e = f e
     go false e = g e
 
@@ -40,7 +40,7 @@ without_append t [] js = refl
 without_append t (k ∷ ks) js = go (eqb k t) (without_append t ks js)
   where
     go : (b : Bool) → without t (ks ++ js) ≡ without t ks ++ without t js
-        → (if b then without t (ks ++ js) else k ∷ without t (ks ++ js)) ≡ (if b then without t ks else k ∷ without t ks) ++ without t js
+        → (when b then without t (ks ++ js) else k ∷ without t (ks ++ js)) ≡ (when b then without t ks else k ∷ without t ks) ++ without t js
     go true rest = rest
     go false rest = ap (λ (l : List ℕ). k ∷ l) rest
 

@@ -7,7 +7,7 @@ use native.Mathlib.Omega.{arith}
 use lib.Dec.{eqb}
 use lib.ListN.{length, get_or, drop, drop_of_length-le}
 use lib.Seq.{drop-cons}
-use Rattle.choice.specs.Choice.{if◌then◌else◌}
+use Rattle.choice.specs.Choice.{when◌then◌else◌}
 use Rattle.choice.proofs.Ways.{if_by}
 use Rattle.queue_record.specs.Waiting.{occupied, without, others, share_of, share}
 use Rattle.queue_record.specs.declared.record.Selection.{Selection}
@@ -23,14 +23,14 @@ other_one Free k ks = omega arith
 other_one (Of t) k ks = by (eqb k t.token) refl
   where
     by : (e : Bool) → eqb k t.token ≡ e
-        → length (if eqb k t.token then without t.token ks else k ∷ without t.token ks) ≡ (if eqb k t.token then 0 else 1) + length (without t.token ks)
+        → length (when eqb k t.token then without t.token ks else k ∷ without t.token ks) ≡ (when eqb k t.token then 0 else 1) + length (without t.token ks)
     by true e = rw e (omega arith)
     by false e = rw e (omega arith)
 
-one_more : (s : Selection) (k x : ℕ) (ks : List ℕ) → waiting_of s (if eqb x 0 then ks else k ∷ ks) ≡ share s k x + waiting_of s ks
+one_more : (s : Selection) (k x : ℕ) (ks : List ℕ) → waiting_of s (when eqb x 0 then ks else k ∷ ks) ≡ share s k x + waiting_of s ks
 one_more s k x ks = by (eqb x 0) refl
   where
-    by : (z : Bool) → eqb x 0 ≡ z → waiting_of s (if eqb x 0 then ks else k ∷ ks) ≡ (if eqb x 0 then 0 else share_of k s) + waiting_of s ks
+    by : (z : Bool) → eqb x 0 ≡ z → waiting_of s (when eqb x 0 then ks else k ∷ ks) ≡ (when eqb x 0 then 0 else share_of k s) + waiting_of s ks
     by true z = rw z (omega arith)
     by false z = rw z (other_one s k ks)
 

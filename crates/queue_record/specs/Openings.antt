@@ -1,6 +1,6 @@
 -- R21 to R26: the openings
 use Rattle.std.specs.Prelude.{ℕ, ◌-◌, false, List, [], ◌++◌, ltb, length, replicate}
-use Rattle.choice.specs.Choice.{if◌then◌else◌}
+use Rattle.choice.specs.Choice.{when◌then◌else◌}
 use Rattle.stage.specs.declared.phases.Phase.{Phase}
 use Rattle.stage.specs.declared.phases.Phase.TheVariants.{Idle, Ended}
 use Rattle.queue_record.specs.declared.record.Kind.{Kind}
@@ -53,7 +53,7 @@ scope_opened domain first = record { answer = Open; queue = scope_of domain firs
 -- R25, R26: more than 16 bindings: 14 and the blank queue
 unfoldable pub iterator_opened : ℕ → ℕ → List ℕ → OpenAnswer
 iterator_opened domain first bindings =
-    if ltb 16 (length bindings) then record { answer = Refused too_many_bindings; queue = blank } else
+    when ltb 16 (length bindings) then record { answer = Refused too_many_bindings; queue = blank } else
     record { answer = Open; queue = iterator_of domain first bindings }
 
 -- the bindings that a kind keeps

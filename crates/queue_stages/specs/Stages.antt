@@ -1,6 +1,6 @@
 -- R28 to R37: admit, end and cancel
 use Rattle.std.specs.Prelude.{Bool, not}
-use Rattle.choice.specs.Choice.{if◌then◌else◌}
+use Rattle.choice.specs.Choice.{when◌then◌else◌}
 use Rattle.stage.specs.Phases.{phase_after, is_pending}
 use Rattle.stage.specs.declared.phases.Phase.{Phase}
 use Rattle.stage.specs.declared.phases.Event.TheVariants.{Admit, End, Cancel}
@@ -24,7 +24,7 @@ refused_stage q = staged (Refused broken) q
 
 -- R33: an Idle stage moves for a target that matches; in every other phase the table lets admit move nothing
 abbrev pub after_admit : Phase → Bool → Phase
-after_admit phase matched = if matched then phase_after phase Admit else phase
+after_admit phase matched = when matched then phase_after phase Admit else phase
 
 -- R35: yes if the stage is pending behind the call
 abbrev pub admitted_by : Queue → Bool → StageAnswer
@@ -32,15 +32,15 @@ admitted_by q matched = staged (yes_or_no (is_pending (after_admit q.phase match
 
 -- R33, R34: matched: there is a target, and its members are the committed ones
 unfoldable pub admitted : Queue → Bool → StageAnswer
-admitted q matched = if not (well_formed q) then refused_stage q else admitted_by q matched
+admitted q matched = when not (well_formed q) then refused_stage q else admitted_by q matched
 
 -- R36: yes if the stage was pending when the call came
 unfoldable pub ended : Queue → StageAnswer
 ended q =
-    if not (well_formed q) then refused_stage q else
+    when not (well_formed q) then refused_stage q else
     staged (yes_or_no (is_pending q.phase)) (with_phase q (phase_after q.phase End))
 
 unfoldable pub cancelled_by : Queue → CancelAnswer
 cancelled_by q =
-    if not (well_formed q) then record { answer = Cancelled.Refused broken; queue = q } else
+    when not (well_formed q) then record { answer = Cancelled.Refused broken; queue = q } else
     record { answer = Cancelled.Done; queue = with_phase q (phase_after q.phase Cancel) }

@@ -1,6 +1,6 @@
 -- Pop (R41 to R47), complete (R48 to R53), retry (R54, R55); what they choose and what refuses them is decided in queue_decisions
 use Rattle.std.specs.Prelude.{ℕ, ◌+◌, Bool, true, false, not, eqb}
-use Rattle.choice.specs.Choice.{if◌then◌else◌}
+use Rattle.choice.specs.Choice.{when◌then◌else◌}
 use Rattle.queue_record.specs.Refusals.{broken}
 use Rattle.queue_record.specs.Record.{with_next, with_slot, with_selection, with_failed, with_issued}
 use Rattle.queue_record.specs.WellFormed.{well_formed}
@@ -64,7 +64,7 @@ popped_as q (Due.Of ticket number next) = handed q ticket number next
 -- R41 to R47. Order 1, 9, 5
 unfoldable pub popped : Queue → PopAnswer
 popped q =
-    if not (well_formed q) then refused_pop q broken else
+    when not (well_formed q) then refused_pop q broken else
     popped_as q (due_in q)
 
 -- ---- complete
@@ -78,12 +78,12 @@ took_back q token kept = with_issued (with_slot q token kept) false
 -- R51, R52: with Done no ticket is left; with Failed it stays, and is marked
 abbrev pub answered : Queue → ℕ → ℕ → ℕ → Queue
 answered q token outcome kept =
-    if eqb outcome 0 then with_selection (took_back q token kept) Free else
+    when eqb outcome 0 then with_selection (took_back q token kept) Free else
     with_failed (took_back q token kept) true
 
 -- R62: settled, or refused with the kept number given
 abbrev pub completed_by : Queue → Ticket → ℕ → ℕ → ℕ → CompleteAnswer
-completed_by q ticket outcome kept refusal = if eqb refusal 0 then record { answer = Settled; queue = answered q ticket.token outcome kept } else refused_complete q refusal kept
+completed_by q ticket outcome kept refusal = when eqb refusal 0 then record { answer = Settled; queue = answered q ticket.token outcome kept } else refused_complete q refusal kept
 
 -- what refuses the answer in this record
 abbrev pub refusal_in : Queue → Ticket → ℕ → ℕ → ℕ
@@ -92,7 +92,7 @@ refusal_in q ticket outcome kept = complete_refusal q.issued q.selection ticket 
 -- R48 to R53. Order 1, 15, 6, 7
 unfoldable pub completed : Queue → Ticket → ℕ → ℕ → CompleteAnswer
 completed q ticket outcome kept =
-    if not (well_formed q) then refused_complete q broken kept else
+    when not (well_formed q) then refused_complete q broken kept else
     completed_by q ticket outcome kept (refusal_in q ticket outcome kept)
 
 -- an answer that is taken in, and not refused
@@ -130,5 +130,5 @@ due_again_in q = retry_due q.failed q.selection q.slots q.next
 -- R54, R55. Order 1, 8, 20, 21
 unfoldable pub retried : Queue → RetryAnswer
 retried q =
-    if not (well_formed q) then refused_retry q broken else
+    when not (well_formed q) then refused_retry q broken else
     retried_as q (due_again_in q)

@@ -91,7 +91,8 @@ selected_small (Of t) = omega arith
 pub marks_encode_lem : (k : Kind) (s : Selection) (f i : Bool) (p : Phase) → marks_encode (kind_word k) (selected_word s) (mark_word f) (mark_word i) (phase_number p) ≡ true
 marks_encode_lem k s f i p =
     let b : phase_number p < 5 = phase_below p in
-    pass _ (le-leb _ _ (kind_small k)) ∙ (pass _ (le-leb _ _ (selected_small s)) ∙ (pass _ (le-leb _ _ (mark_small f)) ∙ (pass _ (le-leb _ _ (mark_small i)) ∙ le-leb (phase_number p) 4 (omega arith))))
+    pass _ (le-leb _ _ (kind_small k)) ∙ (pass _ (le-leb _ _ (selected_small s))
+    ∙ (pass _ (le-leb _ _ (mark_small f)) ∙ (pass _ (le-leb _ _ (mark_small i)) ∙ le-leb (phase_number p) 4 (omega arith))))
 
 pub ticket_encodes_lem : (s : Selection) → ticket_encodes (selected_word s) (domain_word s) (token_word s) (attempt_word s) ≡ true
 ticket_encodes_lem Free = refl

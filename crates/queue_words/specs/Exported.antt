@@ -1,6 +1,6 @@
 -- What the exported calls do to a queue's words: each is the public call on the record that they encode
 use Rattle.std.specs.Prelude.{ℕ, ◌≡◌, Bool, not, false, List, [], ◌∷◌, eqb}
-use Rattle.choice.specs.Choice.{if◌then◌else◌}
+use Rattle.choice.specs.Choice.{when◌then◌else◌}
 use Rattle.queue_record.specs.Refusals.{done, broken}
 use Rattle.queue_record.specs.declared.openings.Opened.{Opened}
 use Rattle.queue_record.specs.declared.openings.Opened.TheVariants.{Open}
@@ -53,7 +53,7 @@ refused_on refusal given ws = exported refusal (answer_of 0 given) ws
 
 -- words that encode no record are refused with 1, and stay
 abbrev pub on_record : List ℕ → ℕ → Exported → Exported
-on_record ws given answered = if not (encodes ws) then refused_on broken given ws else answered
+on_record ws given answered = when not (encodes ws) then refused_on broken given ws else answered
 
 -- ---- the openings: the number that is returned
 abbrev pub open_number : Opened → ℕ
@@ -81,7 +81,7 @@ land_on ws number = on_record ws number (born_exported (landed (queue_of ws) num
 
 -- ---- register of a whole list: how many were taken, with a refusal too
 abbrev pub born_all_case : ℕ → ℕ
-born_all_case refusal = if eqb refusal 0 then 1 else 0
+born_all_case refusal = when eqb refusal 0 then 1 else 0
 
 abbrev pub born_all_said : RegisteredAll → List ℕ → Exported
 born_all_said r ws = exported r.refusal (answer_of (born_all_case r.refusal) r.taken) ws

@@ -1,6 +1,6 @@
 -- A record as words: which words encode one, and the words of each
 use Rattle.std.specs.Prelude.{ℕ, Bool, true, false, ◌&&◌, List, [], ◌∷◌, ◌++◌, eqb, leb, length, get_or, take, drop}
-use Rattle.choice.specs.Choice.{if◌then◌else◌, implies}
+use Rattle.choice.specs.Choice.{when◌then◌else◌, implies}
 use Rattle.stage.specs.Phases.{phase_number, phase_at}
 use Rattle.queue_record.specs.WellFormed.{tokens_fit, bindings_fit, rest_zero, is_selected, ticket_fits, marks_fit, selected_fits, scope_fits, well_formed}
 use Rattle.queue_record.specs.declared.record.Kind.{Kind}
@@ -21,7 +21,7 @@ kind_word Scope = 0
 kind_word Iterator = 1
 
 abbrev pub kind_at : ℕ → Kind
-kind_at n = if eqb n 0 then Scope else Iterator
+kind_at n = when eqb n 0 then Scope else Iterator
 
 -- a mark is set at 1
 abbrev pub mark_word : Bool → ℕ
@@ -52,7 +52,7 @@ attempt_word Free = 0
 attempt_word (Of t) = t.attempt
 
 abbrev pub selection_at : ℕ → ℕ → ℕ → ℕ → Selection
-selection_at selected domain token attempt = if eqb selected 0 then Free else Of (ticket_of domain token attempt)
+selection_at selected domain token attempt = when eqb selected 0 then Free else Of (ticket_of domain token attempt)
 
 -- ---- the record
 abbrev pub slots_in : List ℕ → List ℕ

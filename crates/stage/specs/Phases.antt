@@ -1,6 +1,6 @@
 -- R28 to R32: the phases of a stage
 use Rattle.std.specs.Prelude.{ℕ, Bool, true, false, not, eqb}
-use Rattle.choice.specs.Choice.{if◌then◌else◌}
+use Rattle.choice.specs.Choice.{when◌then◌else◌}
 use Rattle.stage.specs.declared.phases.Phase.{Phase}
 use Rattle.stage.specs.declared.phases.Phase.TheVariants.{Idle, Pending, Ended, Stopping, Closed}
 use Rattle.stage.specs.declared.phases.Event.{Event}
@@ -63,10 +63,10 @@ event_number Cancel = 3
 -- the phase of a number; a number past 4 counts as Closed
 abbrev pub phase_at : ℕ → Phase
 phase_at number =
-    if eqb number 0 then Idle else
-    if eqb number 1 then Pending else
-    if eqb number 2 then Ended else
-    if eqb number 3 then Stopping else
+    when eqb number 0 then Idle else
+    when eqb number 1 then Pending else
+    when eqb number 2 then Ended else
+    when eqb number 3 then Stopping else
     Closed
 
 -- two phases are different ones: their numbers are

@@ -5,7 +5,7 @@ use mathlib.Core.List.{List}
 use lib.ListN.{length, take, length-append}
 use Rattle.csv_lines.specs.Form.{decimal}
 use Rattle.log_text.specs.Report.{pasted}
-use Rattle.log_text.proofs.DecimalLength.{decimal_short}
+use Rattle.log_text.proofs.KitDigits.{decimal_short}
 use Rattle.log_text.proofs.Pasting.{puts_join, pasted_length, room_behind}
 use native.Mathlib.Omega.{arith}
 use borrow.Author.Rules.{rules}

@@ -3,7 +3,7 @@ use Prim.Native.Nat.{ℕ}
 use mathlib.Core.Path.{◌≡◌, sym, ◌∙◌}
 use mathlib.Core.Bool.{not}
 use borrow.Author.Tests.{lt-ltb, le-ltb}
-use Rattle.choice.specs.Choice.{if◌then◌else◌}
+use Rattle.choice.specs.Choice.{when◌then◌else◌}
 use Rattle.choice.proofs.Ways.{hit, miss, negated}
 use Rattle.queue_record.specs.Refusals.{done, not_out, kept_on_done}
 use Rattle.queue_decisions.specs.Answers.{is_out, keeps_on_done, complete_refusal}
@@ -16,10 +16,10 @@ abbrev whole : tie.Start → ℕ
 whole s = complete_refusal s.args.issued s.args.selection s.args.ticket s.args.outcome s.args.kept
 
 abbrev from_kept : tie.Start → ℕ
-from_kept s = if keeps_on_done s.args.outcome s.args.kept then kept_on_done else done
+from_kept s = when keeps_on_done s.args.outcome s.args.kept then kept_on_done else done
 
 abbrev from_out : tie.Start → ℕ
-from_out s = if not (is_out s.args.issued s.args.selection s.args.ticket) then not_out else from_kept s
+from_out s = when not (is_out s.args.issued s.args.selection s.args.ticket) then not_out else from_kept s
 
 abbrev start : tie.Else-outcome-gt1 → tie.Start
 start c = c.before.before

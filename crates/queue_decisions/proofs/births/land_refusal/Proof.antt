@@ -4,7 +4,7 @@ use mathlib.Core.Path.{◌≡◌, sym, ◌∙◌}
 use mathlib.Core.Bool.{not}
 use borrow.Author.Tests.{eq-eqb, ne_eqb, le-leb, lt-leb}
 use lib.Dec.{leb}
-use Rattle.choice.specs.Choice.{if◌then◌else◌}
+use Rattle.choice.specs.Choice.{when◌then◌else◌}
 use Rattle.stage.specs.Phases.{is_pending}
 use Rattle.choice.proofs.Ways.{hit, miss, negated}
 use Rattle.queue_record.specs.Refusals.{done, no_slot, not_pending}
@@ -18,10 +18,10 @@ abbrev whole : tie.Start → ℕ
 whole s = land_refusal s.args.number s.args.phase s.args.count
 
 abbrev from_room : tie.Start → ℕ
-from_room s = if leb 64 s.args.count then no_slot else done
+from_room s = when leb 64 s.args.count then no_slot else done
 
 abbrev from_phase : tie.Start → ℕ
-from_phase s = if not (is_pending s.args.phase) then not_pending else from_room s
+from_phase s = when not (is_pending s.args.phase) then not_pending else from_room s
 
 abbrev to1 : tie.Else-not-pending → tie.Else-number-eq0
 to1 c = c.before.before

@@ -3,7 +3,7 @@ use Prim.Native.Nat.{ℕ}
 use mathlib.Core.Path.{◌≡◌, sym, ◌∙◌}
 use lib.Dec.{eqb, leb}
 use borrow.Author.Tests.{eq-eqb, ne_eqb, le-leb, lt-leb}
-use Rattle.choice.specs.Choice.{if◌then◌else◌}
+use Rattle.choice.specs.Choice.{when◌then◌else◌}
 use Rattle.choice.proofs.Ways.{hit, miss}
 use Rattle.queue_record.specs.Refusals.{done, nothing_kept, no_further_attempt}
 use Rattle.queue_decisions.specs.Slots.{no_more}
@@ -16,10 +16,10 @@ whole s = retry_refusal s.args.failed s.args.number s.args.next
 
 -- what is left of it where something has failed, and where something is kept too
 abbrev from_kept : tie.Start → ℕ
-from_kept s = if eqb s.args.number 0 then nothing_kept else if leb no_more s.args.next then no_further_attempt else done
+from_kept s = when eqb s.args.number 0 then nothing_kept else when leb no_more s.args.next then no_further_attempt else done
 
 abbrev from_next : tie.Start → ℕ
-from_next s = if leb no_more s.args.next then no_further_attempt else done
+from_next s = when leb no_more s.args.next then no_further_attempt else done
 
 left1 : (c : tie.Else-not-failed) → whole c.before ≡ from_kept c.before
 left1 c = miss _ c.if-not-failed.false-raw
