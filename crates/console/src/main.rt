@@ -17,9 +17,7 @@ mod setting;
 mod showing;
 mod subjects;
 
-use std::io;
-
-fn main(rt: HostRuntime) -> io::Result<()> {
+fn main(rt: HostRuntime) {
     let mut log = [0u64; 20500];
     let mut chunk = [0u8; 4096];
     let mut page = [0u8; 4096];
@@ -29,5 +27,5 @@ fn main(rt: HostRuntime) -> io::Result<()> {
         &mut log,
         &mut chunk,
         &mut page,
-    )
+    );
 }

@@ -1,16 +1,17 @@
 // Lines of decimals on standard output, put together on a page and written when they end or fill it.
 use csv_lines::decimal;
-use std::io;
 use std::io::Write;
 
 #[derive(Clone, Copy)]
 pub struct Pen {
     // How much of the page is filled.
     pub at: usize,
+    // Whether the output still takes what is written.
+    pub open: bool,
 }
 
 pub fn fresh() -> Pen {
-    Pen { at: 0 }
+    Pen { at: 0, open: true }
 }
 
 fn put(page: &mut [u8; 4096], pen: Pen, byte: u8) -> Pen {
@@ -19,7 +20,10 @@ fn put(page: &mut [u8; 4096], pen: Pen, byte: u8) -> Pen {
         return pen;
     }
     page[at] = byte;
-    Pen { at: at + 1 }
+    Pen {
+        at: at + 1,
+        open: pen.open,
+    }
 }
 
 fn put_all(page: &mut [u8; 4096], pen: Pen, bytes: &[u8]) -> Pen {
@@ -30,14 +34,17 @@ fn put_all(page: &mut [u8; 4096], pen: Pen, bytes: &[u8]) -> Pen {
     now
 }
 
-// Writes the page; where that fails, the run ends with the error.
-fn send<W: Write>(output: &mut W, page: &[u8], pen: Pen) -> io::Result<Pen> {
+// Writes the page; after a write that failed, nothing more.
+fn send<W: Write>(output: &mut W, page: &[u8], pen: Pen) -> Pen {
     let at = pen.at;
-    if page.len() < at {
-        return Ok(pen);
+    if !pen.open {
+        return pen;
     }
-    output.write_all(&page[..at])?;
-    Ok(Pen { at: 0 })
+    if page.len() < at {
+        return pen;
+    }
+    let taken = output.write_all(&page[..at]).is_ok();
+    Pen { at: 0, open: taken }
 }
 
 fn put_digits(page: &mut [u8; 4096], pen: Pen, n: u64) -> Pen {
@@ -47,15 +54,10 @@ fn put_digits(page: &mut [u8; 4096], pen: Pen, n: u64) -> Pen {
 }
 
 // A number and the comma behind it; a page with no room for them and a line's end is written first.
-pub fn number<W: Write>(
-    output: &mut W,
-    page: &mut [u8; 4096],
-    pen: Pen,
-    n: u64,
-) -> io::Result<Pen> {
+pub fn number<W: Write>(output: &mut W, page: &mut [u8; 4096], pen: Pen, n: u64) -> Pen {
     let mut now = pen;
     if 4000 < pen.at {
-        now = send(output, page, pen)?;
+        now = send(output, page, pen);
     }
     // Most numbers have one digit, which is quick to write.
     if n < 10 {
@@ -63,29 +65,27 @@ pub fn number<W: Write>(
     } else {
         now = put_digits(page, now, n);
     }
-    Ok(put(page, now, b','))
+    put(page, now, b',')
 }
 
-pub fn numbers<W: Write>(
-    output: &mut W,
-    page: &mut [u8; 4096],
-    pen: Pen,
-    values: &[u64],
-) -> io::Result<Pen> {
+pub fn numbers<W: Write>(output: &mut W, page: &mut [u8; 4096], pen: Pen, values: &[u64]) -> Pen {
     let mut now = pen;
     for value in values {
-        now = number(output, page, now, *value)?;
+        now = number(output, page, now, *value);
     }
-    Ok(now)
+    now
 }
 
 // The line's end takes the place of the last comma.
-pub fn end_line<W: Write>(output: &mut W, page: &mut [u8; 4096], pen: Pen) -> io::Result<Pen> {
+pub fn end_line<W: Write>(output: &mut W, page: &mut [u8; 4096], pen: Pen) -> Pen {
     let at = pen.at;
     if at == 0 {
-        return Ok(pen);
+        return pen;
     }
-    let last = Pen { at: at - 1 };
+    let last = Pen {
+        at: at - 1,
+        open: pen.open,
+    };
     let back = put(page, last, b'\r');
     let ended = put(page, back, b'\n');
     send(output, page, ended)

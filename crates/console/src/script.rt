@@ -1,8 +1,7 @@
 // The script on standard input, line by line: what has come is answered before more is waited for.
-ghost use Rattle.std.specs.Prelude.{◌≡◌, ◌≤◌, length, take, IfOk};
+ghost use Rattle.std.specs.Prelude.{◌≡◌, ◌≤◌, length, take};
 
 use csv_lines::{Line, line_at};
-use std::io;
 use std::io::Read;
 
 #[derive(Clone, Copy)]
@@ -21,12 +20,16 @@ pub struct Input {
     pub end: usize,
 }
 
-fn refilled<R: Read>(from: &mut R, chunk: &mut [u8; 4096], input: Input) -> io::Result<Input> {
+fn refilled<R: Read>(from: &mut R, chunk: &mut [u8; 4096], input: Input) -> Input {
     if input.at < input.end {
-        return Ok(input);
+        return input;
     }
-    let end = from.read(chunk)?;
-    Ok(Input { at: 0, end: end })
+    // A read that fails counts as the input's end.
+    let end = match from.read(chunk) {
+        Ok(count) => count,
+        Err(_) => 0,
+    };
+    Input { at: 0, end: end }
 }
 
 #[derive(Clone, Copy)]
@@ -35,22 +38,22 @@ enum Next {
     NoByte,
 }
 
-fn next_byte<R: Read>(from: &mut R, chunk: &mut [u8; 4096], input: Input) -> io::Result<Next> {
-    let now = refilled(from, chunk, input)?;
+fn next_byte<R: Read>(from: &mut R, chunk: &mut [u8; 4096], input: Input) -> Next {
+    let now = refilled(from, chunk, input);
     let at = now.at;
     if now.end <= at {
-        return Ok(Next::NoByte);
+        return Next::NoByte;
     }
     if 4096 <= at {
-        return Ok(Next::NoByte);
+        return Next::NoByte;
     }
-    Ok(Next::Byte(
+    Next::Byte(
         chunk[at],
         Input {
             at: at + 1,
             end: now.end,
         },
-    ))
+    )
 }
 
 #[derive(Clone, Copy)]
@@ -60,19 +63,14 @@ struct Gathered {
 }
 
 // The bytes up to an LF, the input's end, or the end of the space: no good line is as long as that.
-fn gather<R: Read>(
-    from: &mut R,
-    chunk: &mut [u8; 4096],
-    input: Input,
-    line: &mut [u8],
-) -> io::Result<Gathered>
-    ensures within { IfOk result (λ gathered. gathered.count ≤ length line.new) }
-    ensures prefix_len { IfOk result (λ gathered. gathered.count ≡ length (take gathered.count line.new)) }
+fn gather<R: Read>(from: &mut R, chunk: &mut [u8; 4096], input: Input, line: &mut [u8]) -> Gathered
+    ensures within { result.count ≤ length line.new }
+    ensures prefix_len { result.count ≡ length (take result.count line.new) }
 {
     let mut now = input;
     let mut count = 0;
     while count < line.len() {
-        let next = next_byte(from, chunk, now)?;
+        let next = next_byte(from, chunk, now);
         let Next::Byte(byte, after) = next else {
             break;
         };
@@ -83,10 +81,10 @@ fn gather<R: Read>(
             break;
         }
     }
-    Ok(Gathered {
+    Gathered {
         count: count,
         input: now,
-    })
+    }
 }
 
 #[derive(Clone, Copy)]
@@ -96,19 +94,19 @@ pub enum Step {
     NoMore,
 }
 
-pub fn next_line<R: Read>(from: &mut R, chunk: &mut [u8; 4096], input: Input) -> io::Result<Step> {
+pub fn next_line<R: Read>(from: &mut R, chunk: &mut [u8; 4096], input: Input) -> Step {
     let mut line = [0u8; 128];
-    let got = gather(from, chunk, input, &mut line)?;
+    let got = gather(from, chunk, input, &mut line);
     let count = got.count;
     if count == 0 {
-        return Ok(Step::NoMore);
+        return Step::NoMore;
     }
     let read = line_at(&line[..count], 0);
     let Line::Held(row, _) = read else {
-        return Ok(Step::BadText);
+        return Step::BadText;
     };
     let after = got.input;
-    Ok(Step::Obey(
+    Step::Obey(
         Call {
             number: row.kind,
             a: row.token,
@@ -117,5 +115,5 @@ pub fn next_line<R: Read>(from: &mut R, chunk: &mut [u8; 4096], input: Input) ->
             d: row.number,
         },
         after,
-    ))
+    )
 }

@@ -4,7 +4,6 @@ use crate::held::Held;
 use crate::out::{Pen, end_line, number, numbers};
 use cleanup_groups::Groups;
 use cleanup_queue::{Kind, Phase, Queue, Selection};
-use std::io;
 use std::io::Write;
 
 fn bit(yes: bool) -> u64 {
@@ -38,16 +37,16 @@ fn selected(selection: Selection) -> u64 {
     }
 }
 
-fn head<W: Write>(output: &mut W, page: &mut [u8; 4096], pen: Pen, q: Queue) -> io::Result<Pen> {
+fn head<W: Write>(output: &mut W, page: &mut [u8; 4096], pen: Pen, q: Queue) -> Pen {
     let kind = q.kind;
     let slots = q.slots;
     let three = [kind_number(kind), q.domain, q.next];
-    let first = numbers(output, page, pen, &three)?;
-    let second = numbers(output, page, first, &slots)?;
+    let first = numbers(output, page, pen, &three);
+    let second = numbers(output, page, first, &slots);
     number(output, page, second, q.count)
 }
 
-fn tail<W: Write>(output: &mut W, page: &mut [u8; 4096], pen: Pen, q: Queue) -> io::Result<Pen> {
+fn tail<W: Write>(output: &mut W, page: &mut [u8; 4096], pen: Pen, q: Queue) -> Pen {
     let selection = q.selection;
     let ticket = ticket_in(selection);
     let phase = q.phase;
@@ -61,20 +60,15 @@ fn tail<W: Write>(output: &mut W, page: &mut [u8; 4096], pen: Pen, q: Queue) -> 
         bit(q.issued),
         phase_number(phase),
     ];
-    let first = numbers(output, page, pen, &seven)?;
-    let second = numbers(output, page, first, &bindings)?;
+    let first = numbers(output, page, pen, &seven);
+    let second = numbers(output, page, first, &bindings);
     number(output, page, second, q.bound)
 }
 
 // The 92 decimals of a queue, behind what the line has already.
-fn show_queue<W: Write>(
-    output: &mut W,
-    page: &mut [u8; 4096],
-    pen: Pen,
-    q: Queue,
-) -> io::Result<Pen> {
-    let half = head(output, page, pen, q)?;
-    let whole = tail(output, page, half, q)?;
+fn show_queue<W: Write>(output: &mut W, page: &mut [u8; 4096], pen: Pen, q: Queue) -> Pen {
+    let half = head(output, page, pen, q);
+    let whole = tail(output, page, half, q);
     end_line(output, page, whole)
 }
 
@@ -84,29 +78,24 @@ fn show_log<W: Write>(
     pen: Pen,
     log: &[u64],
     used: u64,
-) -> io::Result<Pen> {
-    let lent = number(output, page, pen, log.len() as u64)?;
-    let counted = number(output, page, lent, used)?;
-    let whole = numbers(output, page, counted, log)?;
+) -> Pen {
+    let lent = number(output, page, pen, log.len() as u64);
+    let counted = number(output, page, lent, used);
+    let whole = numbers(output, page, counted, log);
     end_line(output, page, whole)
 }
 
-pub fn show_groups<W: Write>(
-    output: &mut W,
-    page: &mut [u8; 4096],
-    pen: Pen,
-    g: Groups,
-) -> io::Result<Pen> {
+pub fn show_groups<W: Write>(output: &mut W, page: &mut [u8; 4096], pen: Pen, g: Groups) -> Pen {
     let three = [g.base, g.next, bit(g.sealed)];
-    let first = numbers(output, page, pen, &three)?;
-    let mut now = end_line(output, page, first)?;
+    let first = numbers(output, page, pen, &three);
+    let mut now = end_line(output, page, first);
     for place in &g.places {
         let q = place.queue;
         let two = [place.id, bit(place.live)];
-        let named = numbers(output, page, now, &two)?;
-        now = show_queue(output, page, named, q)?;
+        let named = numbers(output, page, now, &two);
+        now = show_queue(output, page, named, q);
     }
-    Ok(now)
+    now
 }
 
 pub fn show_held<W: Write>(
@@ -116,7 +105,7 @@ pub fn show_held<W: Write>(
     h: Held,
     number: u64,
     log: &[u64],
-) -> io::Result<Pen> {
+) -> Pen {
     let queue = h.queue;
     let seen = h.seen;
     match number {

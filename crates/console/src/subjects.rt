@@ -5,7 +5,6 @@ use crate::lives::Grouped;
 use crate::script::Call;
 use crate::{answers, asked, grouped, lives, out, places, plain, recorded, setting, showing};
 use cleanup_groups::{Got, Groups};
-use std::io;
 use std::io::Write;
 
 #[derive(Clone, Copy)]
@@ -99,12 +98,12 @@ pub fn show<W: Write>(
     g: Groups,
     number: u64,
     log: &[u64],
-) -> io::Result<Said> {
+) -> Said {
     if number == 143 {
-        showing::show_groups(output, page, out::fresh(), g)?;
-        return Ok(answers::good(0, 0));
+        showing::show_groups(output, page, out::fresh(), g);
+        return answers::good(0, 0);
     }
     let lent = first_of(h.lent, log);
-    showing::show_held(output, page, out::fresh(), h, number, &log[..lent])?;
-    Ok(answers::good(0, 0))
+    showing::show_held(output, page, out::fresh(), h, number, &log[..lent]);
+    answers::good(0, 0)
 }

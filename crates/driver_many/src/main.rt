@@ -5,7 +5,6 @@
 ghost use Rattle.std.specs.Prelude.{◌≤◌};
 
 use log_text::{read_full, respond};
-use std::io;
 use std::io::{Read, Write};
 
 // The value of a digit; of any other byte, 0.
@@ -34,50 +33,45 @@ fn frame_length(head: [u8; 9]) -> usize {
 }
 
 // What a text has beyond the limit's first byte is passed over, byte by byte.
-fn skip<R: Read>(input: &mut R, count: usize) -> io::Result<()> {
+fn skip<R: Read>(input: &mut R, count: usize) {
     for _ in 0..count {
         let mut byte = [0u8; 1];
-        if read_full(input, &mut byte)? == 0 {
-            break;
+        if read_full(input, &mut byte) == 0 {
+            return;
         }
     }
-    Ok(())
 }
 
-fn answer_text<W: Write>(output: &mut W, text: &[u8]) -> io::Result<()> {
+fn answer_text<W: Write>(output: &mut W, text: &[u8]) {
     let mut answer = [0u8; 256];
     let length = respond(text, &mut answer);
-    output.write_all(&answer[..length])
+    let _ = output.write_all(&answer[..length]);
 }
 
 // As many bytes as the space has, or as there are.
-fn answer_next<R: Read, W: Write>(
-    input: &mut R,
-    output: &mut W,
-    space: &mut [u8],
-) -> io::Result<()> {
-    let count = read_full(input, space)?;
-    answer_text(output, &space[..count])
+fn answer_next<R: Read, W: Write>(input: &mut R, output: &mut W, space: &mut [u8]) {
+    let count = read_full(input, space);
+    answer_text(output, &space[..count]);
 }
 
-fn answer_frame<R: Read, W: Write>(input: &mut R, output: &mut W, length: usize) -> io::Result<()> {
+fn answer_frame<R: Read, W: Write>(input: &mut R, output: &mut W, length: usize) {
     let mut text = [0u8; 32769];
     if length < 32769 {
-        return answer_next(input, output, &mut text[..length]);
+        answer_next(input, output, &mut text[..length]);
+        return;
     }
-    answer_next(input, output, &mut text)?;
-    skip(input, length - 32769)
+    answer_next(input, output, &mut text);
+    skip(input, length - 32769);
 }
 
-fn main(rt: HostRuntime) -> io::Result<()> {
+fn main(rt: HostRuntime) {
     let mut input = rt.stdin();
     let mut output = rt.stdout();
     for _ in 0..1000000 {
         let mut head = [0u8; 9];
-        if read_full(&mut input, &mut head)? < 9 {
-            break;
+        if read_full(&mut input, &mut head) < 9 {
+            return;
         }
-        answer_frame(&mut input, &mut output, frame_length(head))?;
+        answer_frame(&mut input, &mut output, frame_length(head));
     }
-    Ok(())
 }
