@@ -20,7 +20,7 @@ LiveAt g i = (place_at g i).live ≡ true
 abbrev pub id_at : Groups → ℕ → ℕ
 id_at g i = (place_at g i).id
 
--- R101: a well-formed group record, read place by place (sound_means, means-sound: it is the check's answer)
+-- R101: a well-formed group record, read place by place (sound_means, means_sound: it is the check's answer)
 pub record Sound (g : Groups) : Type 0 where
   pub base : g.base ≤ last_base
   pub next : g.next ≤ ids

@@ -8,7 +8,7 @@ use Rattle.log_stages.specs.Stages.{admit_recorded, end_recorded, cancel_recorde
 use Rattle.history.specs.Histories.{Bench}
 use Rattle.history.specs.Benches.{BenchCall}
 
--- the answer whole: what history's numberOf keeps of it is the number alone
+-- the answer whole: what history's number_of keeps of it is the number alone
 abbrev pub said_recorded : Bench → BenchCall → Said
 said_recorded b (BenchCall.register n) = registered_says (register_recorded b.queue n b.log b.used).answer
 said_recorded b (BenchCall.land n) = registered_says (land_recorded b.queue n b.log b.used).answer

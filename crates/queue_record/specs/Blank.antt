@@ -1,4 +1,4 @@
--- R26: the blank queue, as a test: no token, no number but 0 (blank-only: no other queue of 64 and 16 places passes)
+-- R26: the blank queue, as a test: no token, no number but 0 (blank_only: no other queue of 64 and 16 places passes)
 use Rattle.std.specs.Prelude.{Bool, true, false, not, ◌&&◌, eqb}
 use Rattle.stage.specs.Phases.{differs}
 use Rattle.stage.specs.declared.phases.Phase.TheVariants.{Ended}
