@@ -3,28 +3,24 @@
 
 ghost use Rattle.std.specs.Prelude.{◌<◌};
 
-use cleanup_queue::{MOST_TOKENS, Popped, Queue, Selection, complete, pop, register, scope};
+use cleanup_queue::{MOST_TOKENS, Queue, complete, pop, register, scope};
 use queue_record::select;
 
 const DOMAIN: u64 = 5;
 
 fn settle_newest(q: Queue) -> Queue {
     let popped = pop(q);
-    let answer = popped.answer;
-    let queue = popped.queue;
-    let Popped::Work(ticket, _) = answer else {
-        return queue;
+    let Ok(Some((ticket, _))) = popped.answer else {
+        return popped.queue;
     };
-    let completed = complete(queue, ticket, 0, 0);
-    completed.queue
+    complete(popped.queue, ticket, 0, 0).queue
 }
 
 // One token more, its number one above it; unless it is the one that waits, it is settled at once.
 fn add_token(q: Queue, token: u64, place: u64) -> Queue
     requires { token < 64 }
 {
-    let registered = register(q, token + 1);
-    let queue = registered.queue;
+    let queue = register(q, token + 1).queue;
     if token == place {
         return queue;
     }
@@ -32,8 +28,7 @@ fn add_token(q: Queue, token: u64, place: u64) -> Queue
 }
 
 fn one_waits(place: u64) -> Queue {
-    let opened = scope(DOMAIN, 0);
-    let mut queue = opened.queue;
+    let mut queue = scope(DOMAIN, 0).queue;
     for token in 0..MOST_TOKENS {
         queue = add_token(queue, token, place);
     }
@@ -44,9 +39,8 @@ fn one_waits(place: u64) -> Queue {
 fn put_back(q: Queue, place: u64, number: u64) -> Queue
     requires { place < 64 }
 {
-    let at = place as usize;
-    let mut queue = select(q, Selection::Free);
-    queue.slots[at] = number;
+    let mut queue = select(q, None);
+    queue.slots[place as usize] = number;
     queue.issued = false;
     queue
 }
@@ -58,19 +52,14 @@ pub extern "C" fn bench_pops_by_value(place: u64, times: u64) -> u64 {
         return times;
     }
     let mut queue = one_waits(place);
-    let mut left = times;
-    while left > 0 {
+    for done in 0..times {
         let popped = pop(queue);
-        let answer = popped.answer;
-        let Popped::Work(_, number) = answer else {
-            return left;
-        };
-        if number != place + 1 {
-            return left;
+        match popped.answer {
+            Ok(Some((_, number))) if number == place + 1 => {
+                queue = put_back(popped.queue, place, number);
+            }
+            _ => return times - done,
         }
-        let after = popped.queue;
-        queue = put_back(after, place, number);
-        left -= 1;
     }
     0
 }

@@ -9,33 +9,31 @@ use lib.ListN.{length}
 use Rattle.choice.specs.Choice.{when◌then◌else◌}
 use Rattle.stage.specs.Phases.{is_pending}
 use Rattle.choice.proofs.Ways.{miss, pass, clash, and_left, and_right}
-use Rattle.queue_record.specs.Refusals.{broken}
+use Rattle.queue_record.specs.declared.refusal.Refusal.TheVariants.{Broken}
 use Rattle.queue_record.specs.declared.record.Queue.{Queue}
 use Rattle.queue_questions.specs.Questions.{yes_or_no, can_finish_told}
-use Rattle.queue_questions.specs.declared.questions.Told.{Told}
-use Rattle.queue_questions.specs.declared.questions.Told.TheVariants.{Yes}
 use Rattle.group_record.specs.Record.{place_at, queue_at}
 use Rattle.group_asking.specs.Questions.{is_yes, stuck, finishes, drained, asks_live, asks_free, asks_of}
 use Rattle.group_asking.specs.Scan.{some_yes}
 use Rattle.group_check.specs.WellFormed.{well_grouped}
 use Rattle.group_record.specs.declared.record.Groups.{Groups}
-use Rattle.group_asking.specs.declared.questions.Question.{Question}
-use Rattle.group_asking.specs.declared.questions.Question.TheVariants.{Holds, Pending, Issued, Failed, Stuck, Unfinished, Undrained}
+use Rattle.group_asking.specs.Question.{Question, HoldsId, Pending, Issued, Failed, Stuck, Unfinished, Undrained}
 use Rattle.group_survey.specs.Whole.{told_of, contains_told, has_pending_of, has_issued_of, has_failed_of, retries_all, can_retry_all_of, can_finish_of, can_seal_of}
 use Rattle.cleanup_groups.specs.Promises.{LiveAt, id_at, IsLive, SomeLive, EveryLive}
 use Rattle.cleanup_groups.proofs.Every.{none_each, each_none, some_one, one_some}
 use Rattle.cleanup_groups.proofs.Sounds.{says_live, says_free, says_no, sound_means}
+use Rattle.std.specs.Prelude.{Ok, Err}
 
 -- ---- a question answered yes
-pub told_yes : (g : Groups) (b : Bool) → told_of g b ≡ Yes → (well_grouped g ≡ true) × (b ≡ true)
+pub told_yes : (g : Groups) (b : Bool) → told_of g b ≡ Ok true → (well_grouped g ≡ true) × (b ≡ true)
 told_yes g b h = go (well_grouped g) refl b refl h
   where
-    go : (w : Bool) → well_grouped g ≡ w → (c : Bool) → b ≡ c → (when not w then Told.Refused broken else yes_or_no c) ≡ Yes → (well_grouped g ≡ true) × (b ≡ true)
+    go : (w : Bool) → well_grouped g ≡ w → (c : Bool) → b ≡ c → (when not w then Err Broken else yes_or_no c) ≡ Ok true → (well_grouped g ≡ true) × (b ≡ true)
     go true e true f h = (e, f)
     go true e false f h = let z : ◌≡◌ {A = ℕ} 0 1 = cc in absurd (omega arith)
     go false e c f h = let z : ◌≡◌ {A = ℕ} 0 1 = cc in absurd (omega arith)
 
-pub yes_told : (g : Groups) (b : Bool) → well_grouped g ≡ true → b ≡ true → told_of g b ≡ Yes
+pub yes_told : (g : Groups) (b : Bool) → well_grouped g ≡ true → b ≡ true → told_of g b ≡ Ok true
 yes_told g b w e = miss _ (ap not w) ∙ ap yes_or_no e
 
 -- ---- a question that is put to live groups alone
@@ -71,24 +69,24 @@ module _ (g : Groups) (l : length g.places ≡ 16) (question : Question) (target
 -- ---- each of them
 module _ (g : Groups) (l : length g.places ≡ 16) where
   -- has_pending: some live group's stage is pending
-  pub pending_means : has_pending_of g ≡ Yes → SomeLive g (λ id q. is_pending q.phase)
+  pub pending_means : has_pending_of g ≡ Ok true → SomeLive g (λ id q. is_pending q.phase)
   pending_means h = some_means g l Pending [] (λ _ _. refl) (told_yes g (some_yes g Pending []) h).1
 
-  pub means_pending : well_grouped g ≡ true → SomeLive g (λ id q. is_pending q.phase) → has_pending_of g ≡ Yes
+  pub means_pending : well_grouped g ≡ true → SomeLive g (λ id q. is_pending q.phase) → has_pending_of g ≡ Ok true
   means_pending w s = yes_told g (some_yes g Pending []) w (means_some g l Pending [] (λ _ _. refl) s)
 
   -- has_issued: some live group has an undo out
-  pub issued_means : has_issued_of g ≡ Yes → SomeLive g (λ id q. q.issued)
+  pub issued_means : has_issued_of g ≡ Ok true → SomeLive g (λ id q. q.issued)
   issued_means h = some_means g l Issued [] (λ _ _. refl) (told_yes g (some_yes g Issued []) h).1
 
-  pub means_issued : well_grouped g ≡ true → SomeLive g (λ id q. q.issued) → has_issued_of g ≡ Yes
+  pub means_issued : well_grouped g ≡ true → SomeLive g (λ id q. q.issued) → has_issued_of g ≡ Ok true
   means_issued w s = yes_told g (some_yes g Issued []) w (means_some g l Issued [] (λ _ _. refl) s)
 
   -- has_failed: some live group has failed
-  pub failed_means : has_failed_of g ≡ Yes → SomeLive g (λ id q. q.failed)
+  pub failed_means : has_failed_of g ≡ Ok true → SomeLive g (λ id q. q.failed)
   failed_means h = some_means g l Failed [] (λ _ _. refl) (told_yes g (some_yes g Failed []) h).1
 
-  pub means_failed : well_grouped g ≡ true → SomeLive g (λ id q. q.failed) → has_failed_of g ≡ Yes
+  pub means_failed : well_grouped g ≡ true → SomeLive g (λ id q. q.failed) → has_failed_of g ≡ Ok true
   means_failed w s = yes_told g (some_yes g Failed []) w (means_some g l Failed [] (λ _ _. refl) s)
 
   -- can_retry_all: some live group has failed, and each that has may be retried
@@ -98,36 +96,36 @@ module _ (g : Groups) (l : length g.places ≡ 16) where
     none_means g l Stuck [] (λ _ _. refl) (not-true _ (and_right (some_yes g Failed []) (not (some_yes g Stuck [])) h)),
   )
 
-  pub retry_all_means : can_retry_all_of g ≡ Yes → SomeLive g (λ id q. q.failed) × EveryLive g (λ id q. not (stuck q))
+  pub retry_all_means : can_retry_all_of g ≡ Ok true → SomeLive g (λ id q. q.failed) × EveryLive g (λ id q. not (stuck q))
   retry_all_means h = retries_means (told_yes g (retries_all g) h).1
 
-  pub means_retry_all : well_grouped g ≡ true → SomeLive g (λ id q. q.failed) → EveryLive g (λ id q. not (stuck q)) → can_retry_all_of g ≡ Yes
+  pub means_retry_all : well_grouped g ≡ true → SomeLive g (λ id q. q.failed) → EveryLive g (λ id q. not (stuck q)) → can_retry_all_of g ≡ Ok true
   means_retry_all w s f = yes_told g (retries_all g) w (pass _ (means_some g l Failed [] (λ _ _. refl) s) ∙ ap not (means_none g l Stuck [] (λ _ _. refl) f))
 
   -- can_finish: every live group finishes
-  pub finish_means_lem : (target : List ℕ) → can_finish_of g target ≡ Yes → EveryLive g (λ id q. finishes id q target)
+  pub finish_means_lem : (target : List ℕ) → can_finish_of g target ≡ Ok true → EveryLive g (λ id q. finishes id q target)
   finish_means_lem target h i k a = not-false _ (not-true _ (none_means g l Unfinished target (λ _ _. refl) (not-true _ (told_yes g (not (some_yes g Unfinished target)) h).1) i k a))
 
-  pub means_finish : (target : List ℕ) → well_grouped g ≡ true → EveryLive g (λ id q. finishes id q target) → can_finish_of g target ≡ Yes
+  pub means_finish : (target : List ℕ) → well_grouped g ≡ true → EveryLive g (λ id q. finishes id q target) → can_finish_of g target ≡ Ok true
   means_finish target w f = yes_told g (not (some_yes g Unfinished target)) w (ap not (means_none g l Unfinished target (λ _ _. refl) (λ i k a. ap not (ap not (f i k a)))))
 
   -- can_seal: every live group is drained
-  pub seal_means : can_seal_of g ≡ Yes → EveryLive g (λ id q. drained q)
+  pub seal_means : can_seal_of g ≡ Ok true → EveryLive g (λ id q. drained q)
   seal_means h i k a = not-false _ (not-true _ (none_means g l Undrained [] (λ _ _. refl) (not-true _ (told_yes g (not (some_yes g Undrained [])) h).1) i k a))
 
-  pub means_seal : well_grouped g ≡ true → EveryLive g (λ id q. drained q) → can_seal_of g ≡ Yes
+  pub means_seal : well_grouped g ≡ true → EveryLive g (λ id q. drained q) → can_seal_of g ≡ Ok true
   means_seal w f = yes_told g (not (some_yes g Undrained [])) w (ap not (means_none g l Undrained [] (λ _ _. refl) (λ i k a. ap not (ap not (f i k a)))))
 
   -- and so of a sealed record, which has none live, though seal gives 12
-  pub sealed_may_seal : well_grouped g ≡ true → g.sealed ≡ true → can_seal_of g ≡ Yes
+  pub sealed_may_seal : well_grouped g ≡ true → g.sealed ≡ true → can_seal_of g ≡ Ok true
   sealed_may_seal w s = means_seal w (λ i k a. clash a ((sound_means g l w).sealed s i k))
 
   -- contains: the id is live
-  pub contains_means : (id : ℕ) → contains_told g id ≡ Yes → IsLive g id
-  contains_means id h = let w = some_means g l (Holds id) [] (λ _ _. refl) (told_yes g (some_yes g (Holds id) []) h).1 in (w.0, w.1, w.2, eqb-true _ _ w.3)
+  pub contains_means : (id : ℕ) → contains_told g id ≡ Ok true → IsLive g id
+  contains_means id h = let w = some_means g l (HoldsId id) [] (λ _ _. refl) (told_yes g (some_yes g (HoldsId id) []) h).1 in (w.0, w.1, w.2, eqb-true _ _ w.3)
 
-  pub means_contains : (id : ℕ) → well_grouped g ≡ true → IsLive g id → contains_told g id ≡ Yes
-  means_contains id w v = yes_told g (some_yes g (Holds id) []) w (means_some g l (Holds id) [] (λ _ _. refl) (v.0, v.1, v.2, eq-eqb _ _ v.3))
+  pub means_contains : (id : ℕ) → well_grouped g ≡ true → IsLive g id → contains_told g id ≡ Ok true
+  means_contains id w v = yes_told g (some_yes g (HoldsId id) []) w (means_some g l (HoldsId id) [] (λ _ _. refl) (v.0, v.1, v.2, eq-eqb _ _ v.3))
 
 -- ---- what can_finish asks of the root and of the others
 pub finishes_root : (q : Queue) (target : List ℕ) → finishes 0 q target ≡ (not (is_pending q.phase) && not q.failed)

@@ -14,13 +14,13 @@ use Rattle.group_record.specs.declared.record.Groups.{Groups}
 use Rattle.group_check.specs.Count.{live_count}
 use Rattle.group_openings.specs.Openings.{added_scope, added_iterator}
 use Rattle.group_endings.specs.Endings.{removed}
-use Rattle.group_openings.specs.declared.openings.Added.{Added}
-use Rattle.group_openings.specs.declared.openings.AddAnswer.{AddAnswer}
-use Rattle.group_endings.specs.declared.endings.Closed.TheVariants.{Done}
-use Rattle.group_endings.specs.declared.endings.CloseAnswer.{CloseAnswer}
 use Rattle.cleanup_groups.specs.Promises.{LiveAt}
 use Rattle.cleanup_groups.proofs.ByCase.{scope_by, iterator_by, close_by}
 use Rattle.cleanup_groups.proofs.Keeps.{spot_live, room_free}
+use Rattle.std.specs.Prelude.{Ok}
+use Rattle.group_record.specs.declared.answered.GroupsAnswered.{GroupsAnswered}
+use Rattle.group_endings.specs.Types.{Closed}
+use Rattle.group_openings.specs.Types.{Added}
 
 -- ---- one place
 abbrev one : Bool → ℕ
@@ -85,18 +85,18 @@ count_most (p ∷ ps) = let r : live_count ps ≤ length ps = count_most ps in g
 
 -- ---- the calls: an opening that is done counts one more, a closing one less
 module _ (g : Groups) (l : length g.places ≡ 16) where
-  abbrev Counts : ℕ → AddAnswer → Type 0
-  Counts n r = r.answer ≡ Added.Id n → live_count r.groups.places ≡ live_count g.places + 1
+  abbrev Counts : ℕ → GroupsAnswered Added → Type 0
+  Counts n r = r.answer ≡ Ok n → live_count r.groups.places ≡ live_count g.places + 1
 
   pub scope_counts : (n : ℕ) → Counts n (added_scope g)
-  scope_counts n = scope_by (Counts n) g (λ _ _ h. let z : ◌≡◌ {A = ℕ} 0 1 = cc in absurd (omega arith)) (λ i _ e _. let k = room_free g i l e in count_opened g i l k.0 _ k.1)
+  scope_counts n = scope_by (Counts n) g (λ _ h. let z : ◌≡◌ {A = ℕ} 0 1 = cc in absurd (omega arith)) (λ i _ e _. let k = room_free g i l e in count_opened g i l k.0 _ k.1)
 
   pub iterator_counts : (n : ℕ) (bindings : List ℕ) → Counts n (added_iterator g bindings)
   iterator_counts n bindings =
-      iterator_by (Counts n) g (λ _ _ h. let z : ◌≡◌ {A = ℕ} 0 1 = cc in absurd (omega arith)) bindings
+      iterator_by (Counts n) g (λ _ h. let z : ◌≡◌ {A = ℕ} 0 1 = cc in absurd (omega arith)) bindings
       (λ i _ _ e _. let k = room_free g i l e in count_opened g i l k.0 _ k.1)
 
-  pub close_counts : (id : ℕ) → (removed g id).answer ≡ Done → live_count (removed g id).groups.places + 1 ≡ live_count g.places
+  pub close_counts : (id : ℕ) → (removed g id).answer ≡ Ok tt → live_count (removed g id).groups.places + 1 ≡ live_count g.places
   close_counts id =
-      close_by (λ (r : CloseAnswer). r.answer ≡ Done → live_count r.groups.places + 1 ≡ live_count g.places) g
-      (λ _ _ h. let z : ◌≡◌ {A = ℕ} 0 1 = cc in absurd (omega arith)) id (λ i e _ _. let k = spot_live g id i l e in count_closed g i l k.0 k.1)
+      close_by (λ (r : GroupsAnswered Closed). r.answer ≡ Ok tt → live_count r.groups.places + 1 ≡ live_count g.places) g
+      (λ _ h. let z : ◌≡◌ {A = ℕ} 0 1 = cc in absurd (omega arith)) id (λ i e _ _. let k = spot_live g id i l e in count_closed g i l k.0 k.1)

@@ -4,15 +4,14 @@ use mathlib.Core.Path.{◌≡◌, refl, sym, ap, ◌∙◌, subst}
 use mathlib.Core.Bool.{true}
 use mathlib.Core.List.{List, [], ◌∷◌}
 use lib.ListN.{length}
+use Rattle.queue_record.specs.declared.refusal.Refusal.{Refusal}
 use Rattle.queue_record.specs.declared.record.Queue.{Queue}
 use Rattle.queue_record.specs.declared.record.Ticket.{Ticket}
 use Rattle.group_record.specs.Record.{place_at, holding, with_queue, sealing}
 use Rattle.group_check.specs.Ids.{spot_of}
 use Rattle.group_record.specs.declared.record.Place.{Place}
 use Rattle.group_record.specs.declared.record.Groups.{Groups}
-use Rattle.group_check.specs.declared.ids.Spot.{Spot}
 use Rattle.group_endings.specs.Endings.{removed}
-use Rattle.group_endings.specs.declared.endings.CloseAnswer.{CloseAnswer}
 use Rattle.group_steps.specs.Births.{registered_at, registered_in, landed_at, landed_in}
 use Rattle.group_steps.specs.Sequences.{registered_all_at, registered_all_in}
 use Rattle.group_steps.specs.Attempts.{popped_at, popped_in, completed_at, completed_in, retried_at, retried_in}
@@ -23,6 +22,10 @@ use Rattle.cleanup_groups.specs.Runs.{GroupCall, groups_after, groups_after_all}
 use Rattle.cleanup_groups.proofs.ByCase.{by_spot, close_by, call_by}
 use Rattle.cleanup_groups.proofs.Placed.{by_place}
 use Rattle.cleanup_groups.proofs.Keeps.{spot_live, round_live, round_id}
+use Rattle.std.specs.Prelude.{Ok, Err}
+use Rattle.group_record.specs.declared.answered.GroupsAnswered.{GroupsAnswered}
+use Rattle.group_check.specs.Types.{Spot}
+use Rattle.group_endings.specs.Types.{Closed}
 
 frame_same : (g : Groups) → Frame g g
 frame_same g = record { base = refl; next = refl; sealed = refl; marks = λ _. refl; ids = λ _. refl }
@@ -45,7 +48,7 @@ live_frame g h id f w = (w.0, w.1, sym (f.marks w.0) ∙ w.2, sym (f.ids w.0) �
 
 module _ (g : Groups) (l : length g.places ≡ 16) (id : ℕ) where
   -- whichever call: refused it leaves the record, else it leaves another queue at the id's place
-  framed : (f : Spot → Groups) (q : ℕ → Queue) → ((n : ℕ) → f (Spot.Refused n) ≡ g) → ((i : ℕ) → f (Spot.At i) ≡ with_queue g i (q i)) → Frame g (f (spot_of g id))
+  framed : (f : Spot → Groups) (q : ℕ → Queue) → ((n : Refusal) → f (Err n) ≡ g) → ((i : ℕ) → f (Ok i) ≡ with_queue g i (q i)) → Frame g (f (spot_of g id))
   framed f q r s =
       by_spot (λ (h : Groups). Frame g h) f (spot_of g id) (λ n _. subst (Frame g) (sym (r n)) (frame_same g))
       (λ i e. subst (Frame g) (sym (s i)) (queue_frame g i (q i) l (spot_live g id i l e).0))
@@ -114,4 +117,4 @@ run_sealed g (c ∷ cs) s = run_sealed (groups_after g c) cs (sealed_stays g c s
 
 -- a closing leaves next and seal (the base: base_stays; the other places: close_others)
 pub close_frame : (g : Groups) (id : ℕ) → ((removed g id).groups.next ≡ g.next) × ((removed g id).groups.sealed ≡ g.sealed)
-close_frame g id = close_by (λ (r : CloseAnswer). (r.groups.next ≡ g.next) × (r.groups.sealed ≡ g.sealed)) g (λ _ _. (refl, refl)) id (λ _ _ _. (refl, refl))
+close_frame g id = close_by (λ (r : GroupsAnswered Closed). (r.groups.next ≡ g.next) × (r.groups.sealed ≡ g.sealed)) g (λ _. (refl, refl)) id (λ _ _ _. (refl, refl))

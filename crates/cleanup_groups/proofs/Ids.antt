@@ -12,7 +12,6 @@ use Rattle.group_record.specs.Record.{place_at, queue_at, free_place, live_place
 use Rattle.group_check.specs.WellFormed.{well_grouped}
 use Rattle.group_check.proofs.Spots.{spot_means}
 use Rattle.group_endings.specs.Endings.{removed}
-use Rattle.group_endings.specs.declared.endings.Closed.TheVariants.{Done}
 use Rattle.group_record.specs.declared.record.Place.{Place}
 use Rattle.group_record.specs.declared.record.Groups.{Groups}
 use Rattle.cleanup_groups.specs.Promises.{LiveAt, id_at, Sound, IsLive}
@@ -24,6 +23,7 @@ use Rattle.cleanup_groups.proofs.Keeps.{spot_live, room_free, all_free_sound, ro
 use Rattle.cleanup_groups.proofs.Drains.{close_means}
 use Rattle.cleanup_groups.proofs.Frames.{close_frame}
 use Rattle.cleanup_groups.proofs.Live.{closed_gone}
+use Rattle.std.specs.Prelude.{Ok}
 
 -- ---- next
 pub next_rises : (g : Groups) (c : GroupCall) → g.next ≤ (groups_after g c).next
@@ -63,7 +63,7 @@ gone_stays g (c ∷ cs) id l b n w =
     gone_stays (groups_after g c) cs id (call_whole g c l) (omega arith) (λ v. ⊎_elim n (λ e. omega arith) (live_from g l id c v)) w
 
 -- the id of a closed group, whatever is called afterwards
-pub closed_for_good_lem : (g : Groups) (id : ℕ) (cs : List GroupCall) → length g.places ≡ 16 → (removed g id).answer ≡ Done → IsLive (groups_after_all (removed g id).groups cs) id → ⊥
+pub closed_for_good_lem : (g : Groups) (id : ℕ) (cs : List GroupCall) → length g.places ≡ 16 → (removed g id).answer ≡ Ok tt → IsLive (groups_after_all (removed g id).groups cs) id → ⊥
 closed_for_good_lem g id cs l h =
     let c = close_means g id l h in
     let s = spot_live g id c.0 l c.1 in

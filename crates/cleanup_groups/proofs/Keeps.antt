@@ -13,7 +13,6 @@ use Rattle.queue_record.specs.WellFormed.{well_formed}
 use Rattle.queue_record.specs.Openings.{scope_of, blank}
 use Rattle.queue_record.specs.Blank.{is_blank}
 use Rattle.queue_record.specs.declared.record.Queue.{Queue}
-use Rattle.queue_record.specs.declared.search.Found.TheVariants.{At}
 use Rattle.queue_record.proofs.OpenedLaws.{scope_well_formed, scope_sized}
 use Rattle.queue_steps.specs.Attempts.{retried}
 use Rattle.cleanup_queue.specs.Runs as queue
@@ -26,12 +25,9 @@ use Rattle.group_check.specs.WellFormed.{last_base, ids, well_grouped}
 use Rattle.group_check.specs.Ids.{spot_of}
 use Rattle.group_record.specs.declared.record.Place.{Place}
 use Rattle.group_record.specs.declared.record.Groups.{Groups}
-use Rattle.group_asking.specs.declared.questions.Question.{Question}
-use Rattle.group_asking.specs.declared.questions.Question.TheVariants.{Free, Holds}
-use Rattle.group_check.specs.declared.ids.Spot.{Spot}
+use Rattle.group_asking.specs.Question.{Question, Free, HoldsId}
 use Rattle.group_check.proofs.Spots.{spot_means}
 use Rattle.group_openings.specs.Openings.{new_of, room_of}
-use Rattle.group_openings.specs.declared.openings.NewAnswer.{NewAnswer}
 use Rattle.group_openings.proofs.Room.{unsealed_means, room_means}
 use Rattle.group_rounds.specs.Rounds.{retried_place, retried_places, all_retried}
 use Rattle.cleanup_groups.specs.Promises.{LiveAt, id_at, Sound}
@@ -40,9 +36,12 @@ use Rattle.cleanup_groups.proofs.Every.{found_says, found_lowest}
 use Rattle.cleanup_groups.proofs.Sounds.{sound_means, means_sound}
 use Rattle.cleanup_groups.proofs.ByCase.{New, call_by}
 use Rattle.cleanup_groups.proofs.Placed.{replaced, raised, same_length}
+use Rattle.std.specs.Prelude.{Some, Ok}
+use Rattle.group_record.specs.declared.answered.GroupsAnswered.{GroupsAnswered}
+use Rattle.queue_record.specs.Types.{Opened}
 
 -- ---- what is found
-found_at : (g : Groups) (question : Question) (i : ℕ) → length g.places ≡ 16 → first_yes g question [] ≡ At i → (i < 16) × (asks_of question [] (place_at g i) ≡ true)
+found_at : (g : Groups) (question : Question) (i : ℕ) → length g.places ≡ 16 → first_yes g question [] ≡ Some i → (i < 16) × (asks_of question [] (place_at g i) ≡ true)
 found_at g question i l e =
     let w = found_says (asks_of question []) 0 g.places i e in
     let z : i ≡ 0 + w.0 = w.1 in
@@ -59,16 +58,16 @@ free_yes true h = clash {b = false} h refl
 free_yes false h = refl
 
 -- where an id is found it is live
-pub holds_means : (g : Groups) (id i : ℕ) → length g.places ≡ 16 → first_yes g (Holds id) [] ≡ At i → (i < 16) × LiveAt g i × (id_at g i ≡ id)
+pub holds_means : (g : Groups) (id i : ℕ) → length g.places ≡ 16 → first_yes g (HoldsId id) [] ≡ Some i → (i < 16) × LiveAt g i × (id_at g i ≡ id)
 holds_means g id i l e =
-    let w = found_at g (Holds id) i l e in
+    let w = found_at g (HoldsId id) i l e in
     let v = live_yes (place_at g i).live (eqb (id_at g i) id) w.1 in
     (w.0, v.0, eqb-true _ _ v.1)
 
-pub spot_live : (g : Groups) (id i : ℕ) → length g.places ≡ 16 → spot_of g id ≡ Spot.At i → (i < 16) × LiveAt g i × (id_at g i ≡ id)
+pub spot_live : (g : Groups) (id i : ℕ) → length g.places ≡ 16 → spot_of g id ≡ Ok i → (i < 16) × LiveAt g i × (id_at g i ≡ id)
 spot_live g id i l e = holds_means g id i l (spot_means g id i e).1
 
-pub room_free : (g : Groups) (i : ℕ) → length g.places ≡ 16 → room_of g ≡ Spot.At i → (i < 16) × ((place_at g i).live ≡ false)
+pub room_free : (g : Groups) (i : ℕ) → length g.places ≡ 16 → room_of g ≡ Ok i → (i < 16) × ((place_at g i).live ≡ false)
 room_free g i l e = let w = found_at g Free i l (room_means g i e).0 in (w.0, free_yes (place_at g i).live w.1)
 
 not_free : (b : Bool) → (when b then false else true) ≡ false → b ≡ true
@@ -76,7 +75,7 @@ not_free true h = refl
 not_free false h = clash {b = true} refl h
 
 -- every place below it is live: it is the lowest free one
-pub room_lowest : (g : Groups) (i : ℕ) → room_of g ≡ Spot.At i → (j : ℕ) → j < i → LiveAt g j
+pub room_lowest : (g : Groups) (i : ℕ) → room_of g ≡ Ok i → (j : ℕ) → j < i → LiveAt g j
 room_lowest g i e j k = not_free (place_at g j).live (found_lowest (asks_of Free []) 0 g.places i (room_means g i e).0 j (omega arith))
 
 -- ---- one queue steps
@@ -210,7 +209,7 @@ run_keeps g (c ∷ cs) l h = run_keeps (groups_after g c) cs (call_whole g c l) 
 -- ---- a new record
 pub new_whole : (base : ℕ) → length (new_of base).groups.places ≡ 16
 unfolding new_of empty_of
-new_whole base = if_by (λ (r : NewAnswer). length r.groups.places ≡ 16) (ltb last_base base) _ _ (λ _. refl) (λ _. refl)
+new_whole base = if_by (λ (r : GroupsAnswered Opened). length r.groups.places ≡ 16) (ltb last_base base) _ _ (λ _. refl) (λ _. refl)
 
 empty_keeps : (base : ℕ) → base ≤ last_base → well_grouped (empty_of base) ≡ true
 unfolding empty_of
@@ -226,4 +225,4 @@ root_keeps base h =
 
 pub new_keeps : (base : ℕ) → well_grouped (new_of base).groups ≡ true
 unfolding new_of
-new_keeps base = if_by (λ (r : NewAnswer). well_grouped r.groups ≡ true) (ltb last_base base) _ _ (λ _. empty_keeps 0 (omega arith)) (λ e. root_keeps base (ltb-false _ _ e))
+new_keeps base = if_by (λ (r : GroupsAnswered Opened). well_grouped r.groups ≡ true) (ltb last_base base) _ _ (λ _. empty_keeps 0 (omega arith)) (λ e. root_keeps base (ltb-false _ _ e))

@@ -9,15 +9,11 @@ use Rattle.stage.specs.Phases.{is_cancelled}
 use Rattle.choice.proofs.Ways.{hit, miss, clash}
 use Rattle.queue_record.specs.Newest.{is_there}
 use Rattle.queue_record.specs.Openings.{blank}
-use Rattle.queue_record.specs.Refusals.{broken, no_group}
+use Rattle.queue_record.specs.declared.refusal.Refusal.TheVariants.{Broken, NoGroup}
 use Rattle.queue_record.specs.WellFormed.{well_formed}
 use Rattle.queue_record.specs.declared.record.Queue.{Queue}
 use Rattle.queue_record.specs.declared.record.Ticket.{Ticket}
-use Rattle.queue_record.specs.declared.search.Found.{Found}
-use Rattle.queue_record.specs.declared.search.Found.TheVariants.{At, Missing}
 use Rattle.queue_questions.specs.Questions.{yes_or_no, matches, is_cancelled_told, domain_told}
-use Rattle.queue_questions.specs.declared.questions.Told.{Told}
-use Rattle.queue_questions.specs.declared.questions.DomainTold.{DomainTold}
 use Rattle.queue_births.specs.Births.{registered, landed}
 use Rattle.queue_births.specs.Sequences.{registered_all}
 use Rattle.queue_steps.specs.Attempts.{popped, completed, retried}
@@ -29,15 +25,10 @@ use Rattle.group_check.specs.WellFormed.{well_grouped}
 use Rattle.group_check.specs.Ids.{spot_at, spot_of, got_at, got}
 use Rattle.group_record.specs.declared.record.Place.{Place}
 use Rattle.group_record.specs.declared.record.Groups.{Groups}
-use Rattle.group_asking.specs.declared.questions.Question.TheVariants.{Holds}
-use Rattle.group_check.specs.declared.ids.Spot.{Spot}
-use Rattle.group_check.specs.declared.ids.Got.{Got}
-use Rattle.group_check.specs.declared.ids.GetAnswer.{GetAnswer}
+use Rattle.group_asking.specs.Question.{HoldsId}
 use Rattle.group_check.proofs.Spots.{spot_means}
 use Rattle.group_questions.specs.ById.{told_by, domain_by, domain_in, negation, accepts_in}
 use Rattle.group_endings.specs.Endings.{removed_at, removed}
-use Rattle.group_endings.specs.declared.endings.Closed.TheVariants.{Done}
-use Rattle.group_endings.specs.declared.endings.CloseAnswer.{CloseAnswer}
 use Rattle.group_steps.specs.Births.{born_at, registered_at, registered_in, landed_at, landed_in}
 use Rattle.group_steps.specs.Sequences.{took_at, registered_all_at, registered_all_in}
 use Rattle.group_steps.specs.Attempts.{handed_at, popped_at, popped_in, settled_at, completed_at, completed_in, renewed_at, retried_at, retried_in}
@@ -48,39 +39,45 @@ use Rattle.cleanup_groups.proofs.Asked.{means_some}
 use Rattle.cleanup_groups.proofs.Placed.{by_place}
 use Rattle.cleanup_groups.proofs.Keeps.{holds_means, spot_live}
 use Rattle.cleanup_groups.proofs.Drains.{means_drained, close_means}
+use Rattle.std.specs.Prelude.{Option, Some, None, Ok, Err}
+use Rattle.queue_record.specs.declared.answered.Answered.{Answered}
+use Rattle.group_record.specs.declared.answered.GroupsAnswered.{GroupsAnswered}
+use Rattle.group_check.specs.Types.{Got, Spot}
+use Rattle.group_endings.specs.Types.{Closed}
+use Rattle.queue_questions.specs.Types.{Told}
 
 -- ---- where an id is
 module _ (g : Groups) (id : ℕ) where
-  pub broken_spot : well_grouped g ≡ false → spot_of g id ≡ Spot.Refused broken
+  pub broken_spot : well_grouped g ≡ false → spot_of g id ≡ Err Broken
   unfolding spot_of
   broken_spot w = hit _ (ap not w)
 
   module _ (l : length g.places ≡ 16) (w : well_grouped g ≡ true) where
     -- the place of a live id is the one that is found, for no other has it
-    pub live_spot : (i : ℕ) → i < 16 → LiveAt g i → id_at g i ≡ id → spot_of g id ≡ Spot.At i
+    pub live_spot : (i : ℕ) → i < 16 → LiveAt g i → id_at g i ≡ id → spot_of g id ≡ Ok i
     unfolding spot_of
-    live_spot i k a e = miss _ (ap not w) ∙ go (first_yes g (Holds id) []) refl
+    live_spot i k a e = miss _ (ap not w) ∙ go (first_yes g (HoldsId id) []) refl
       where
-        go : (f : Found) → first_yes g (Holds id) [] ≡ f → spot_at f ≡ Spot.At i
-        go Missing h = clash (means_some g l (Holds id) [] (λ _ _. refl) (i, k, a, eq-eqb _ _ e)) (ap is_there h)
-        go (At j) h = let v = holds_means g id j l h in ap (λ (m : ℕ). Spot.At m) ((sound_means g l w).distinct j i v.0 k v.1 a (v.2 ∙ sym e))
+        go : (f : Option ℕ) → first_yes g (HoldsId id) [] ≡ f → spot_at f ≡ Ok i
+        go None h = clash (means_some g l (HoldsId id) [] (λ _ _. refl) (i, k, a, eq-eqb _ _ e)) (ap is_there h)
+        go (Some j) h = let v = holds_means g id j l h in ap (λ (m : ℕ). Ok m) ((sound_means g l w).distinct j i v.0 k v.1 a (v.2 ∙ sym e))
 
-    pub dead_spot : (IsLive g id → ⊥) → spot_of g id ≡ Spot.Refused no_group
+    pub dead_spot : (IsLive g id → ⊥) → spot_of g id ≡ Err NoGroup
     unfolding spot_of
-    dead_spot n = miss _ (ap not w) ∙ go (first_yes g (Holds id) []) refl
+    dead_spot n = miss _ (ap not w) ∙ go (first_yes g (HoldsId id) []) refl
       where
-        go : (f : Found) → first_yes g (Holds id) [] ≡ f → spot_at f ≡ Spot.Refused no_group
-        go Missing h = refl
-        go (At j) h = let v = holds_means g id j l h in absurd (n (j, v.0, v.1, v.2))
+        go : (f : Option ℕ) → first_yes g (HoldsId id) [] ≡ f → spot_at f ≡ Err NoGroup
+        go None h = refl
+        go (Some j) h = let v = holds_means g id j l h in absurd (n (j, v.0, v.1, v.2))
 
     -- the queue is not given for an id that is not live
-    pub get_dead : (IsLive g id → ⊥) → got g id ≡ record { answer = Got.Refused no_group; queue = blank }
+    pub get_dead : (IsLive g id → ⊥) → got g id ≡ record { answer = Err NoGroup; queue = blank }
     unfolding got
     get_dead n = ap (got_at g) (dead_spot n)
 
 -- ---- the calls on an id that is live at the place i
 module _ (g : Groups) (id i : ℕ) (l : length g.places ≡ 16) (w : well_grouped g ≡ true) (k : i < 16) (a : LiveAt g i) (e : id_at g i ≡ id) where
-  spot : spot_of g id ≡ Spot.At i
+  spot : spot_of g id ≡ Ok i
   spot = live_spot g id l w i k a e
 
   sound : well_formed (queue_at g i) ≡ true
@@ -126,20 +123,20 @@ module _ (g : Groups) (id i : ℕ) (l : length g.places ≡ 16) (w : well_groupe
   unfolding cancelled_in
   cancel_as = ap (cancelled_at g) spot
 
-  pub get_as : got g id ≡ record { answer = Got.Group; queue = queue_at g i }
+  pub get_as : got g id ≡ record { answer = Ok tt; queue = queue_at g i }
   unfolding got
   get_as = ap (got_at g) spot
 
   -- a yes-or-no call of the group, whichever: what the queue's own tells
   pub told_as : (tells : Queue → Told) → told_by (got g id).answer (tells (got g id).queue) ≡ tells (queue_at g i)
-  told_as tells = ap (λ (r : GetAnswer). told_by r.answer (tells r.queue)) get_as
+  told_as tells = ap (λ (r : Answered Got). told_by r.answer (tells r.queue)) get_as
 
   -- its domain is base plus id
-  pub domain_as : domain_in g id ≡ DomainTold.Is (g.base + id)
+  pub domain_as : domain_in g id ≡ Ok (g.base + id)
   unfolding domain_told
   domain_as =
-      ap (λ (r : GetAnswer). domain_by r.answer (domain_told r.queue)) get_as
-      ∙ (miss _ (ap not sound) ∙ ap (λ (d : ℕ). DomainTold.Is d) ((sound_means g l w).domains i k a ∙ ap (λ (n : ℕ). g.base + n) e))
+      ap (λ (r : Answered Got). domain_by r.answer (domain_told r.queue)) get_as
+      ∙ (miss _ (ap not sound) ∙ ap (λ (d : ℕ). Ok d) ((sound_means g l w).domains i k a ∙ ap (λ (n : ℕ). g.base + n) e))
 
   turned : (b : Bool) → negation (yes_or_no b) ≡ yes_or_no (not b)
   turned true = refl
@@ -151,12 +148,12 @@ module _ (g : Groups) (id i : ℕ) (l : length g.places ≡ 16) (w : well_groupe
   accepts_as = ap negation (told_as is_cancelled_told ∙ yes_asked (queue_at g i) (is_cancelled (queue_at g i).phase) sound) ∙ turned (is_cancelled (queue_at g i).phase)
 
   -- a group with nothing left can be closed
-  pub drained_closes : DrainedQueue (queue_at g i) → (removed g id).answer ≡ Done
+  pub drained_closes : DrainedQueue (queue_at g i) → (removed g id).answer ≡ Ok tt
   unfolding removed
-  drained_closes n = ap (λ (s : Spot). (removed_at g s).answer) spot ∙ ap (λ (r : CloseAnswer). r.answer) (miss _ (ap not (means_drained (queue_at g i) sound n)))
+  drained_closes n = ap (λ (s : Spot). (removed_at g s).answer) spot ∙ ap (λ (r : GroupsAnswered Closed). r.answer) (miss _ (ap not (means_drained (queue_at g i) sound n)))
 
 -- ---- a closed id is not live any more
-pub closed_gone : (g : Groups) (id : ℕ) → length g.places ≡ 16 → (removed g id).answer ≡ Done → IsLive (removed g id).groups id → ⊥
+pub closed_gone : (g : Groups) (id : ℕ) → length g.places ≡ 16 → (removed g id).answer ≡ Ok tt → IsLive (removed g id).groups id → ⊥
 closed_gone g id l h v =
     let c = close_means g id l h in
     let s = spot_live g id c.0 l c.1 in

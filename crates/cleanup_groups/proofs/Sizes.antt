@@ -16,12 +16,13 @@ use Rattle.group_record.specs.declared.record.Place.{Place}
 use Rattle.group_record.specs.declared.record.Groups.{Groups}
 use Rattle.group_check.specs.WellFormed.{last_base}
 use Rattle.group_openings.specs.Openings.{new_of}
-use Rattle.group_openings.specs.declared.openings.NewAnswer.{NewAnswer}
 use Rattle.cleanup_groups.specs.Promises.{AllSized}
 use Rattle.cleanup_groups.specs.Runs.{GroupCall, groups_after, groups_after_all}
 use Rattle.cleanup_groups.proofs.ByCase.{call_by}
 use Rattle.cleanup_groups.proofs.Placed.{by_place}
 use Rattle.cleanup_groups.proofs.Keeps.{spot_live, room_free, free_there, by_round, call_whole}
+use Rattle.group_record.specs.declared.answered.GroupsAnswered.{GroupsAnswered}
+use Rattle.queue_record.specs.Types.{Opened}
 
 put_sized : (g : Groups) (i : ℕ) (p : Place) → length g.places ≡ 16 → i < 16 → AllSized g → Sized p.queue → AllSized (with_place g i p)
 put_sized g i p l k s z j x = by_place g i p l k (λ (q : Place). Sized q.queue) j (λ _. z) (λ _. s j x)
@@ -32,7 +33,7 @@ free_sized i k = subst (λ (p : Place). Sized p.queue) (sym (free_there 16 i k))
 pub new_sized : (base : ℕ) → AllSized (new_of base).groups
 unfolding new_of empty_of
 new_sized base =
-    if_by (λ (r : NewAnswer). AllSized r.groups) (ltb last_base base) _ _ (λ _. free_sized)
+    if_by (λ (r : GroupsAnswered Opened). AllSized r.groups) (ltb last_base base) _ _ (λ _. free_sized)
     (λ _. put_sized (empty_of base) 0 (live_place 0 (scope_of base 0)) refl (omega arith) free_sized (scope_sized base 0))
 
 pub call_sized : (g : Groups) (c : GroupCall) → length g.places ≡ 16 → AllSized g → AllSized (groups_after g c)

@@ -18,8 +18,7 @@ use Rattle.group_asking.specs.Scan.{first_from, some_yes}
 use Rattle.group_check.specs.WellFormed.{clashes, distinct_ids, queues_fit, free_fits, sealed_fits, well_grouped}
 use Rattle.group_record.specs.declared.record.Place.{Place}
 use Rattle.group_record.specs.declared.record.Groups.{Groups}
-use Rattle.group_asking.specs.declared.questions.Question.{Question}
-use Rattle.group_asking.specs.declared.questions.Question.TheVariants.{Littered, Live, Holds, PastNext, Foreign}
+use Rattle.group_asking.specs.Question.{Question, Littered, Live, HoldsId, PastNext, Foreign}
 use Rattle.group_check.proofs.Fit.{Fit, fit, fits}
 use Rattle.cleanup_groups.specs.Promises.{LiveAt, id_at, Sound}
 use Rattle.cleanup_groups.proofs.Every.{none_each, each_none}
@@ -42,9 +41,9 @@ distinct_each [] h i j l k a b e = omega arith
 distinct_each (p ∷ ps) h i zero l k a b e = omega arith
 distinct_each (p ∷ ps) h zero (suc j) l k a b e =
     let n : clashes p ps ≡ false = not-true _ (and_left (not (clashes p ps)) (distinct_ids ps) h) in
-    let t : is_there (first_from (asks_of (Holds p.id) []) 0 ps) ≡ false = sym (pass _ a) ∙ n in
-    let s : asks_of (Holds p.id) [] (get_or ps j nowhere) ≡ false = none_each (asks_of (Holds p.id) []) 0 ps t j (omega arith) in
-    clash (eq-eqb (get_or ps j nowhere).id p.id (sym e)) (sym (says_live (Holds p.id) [] (get_or ps j nowhere) b) ∙ s)
+    let t : is_there (first_from (asks_of (HoldsId p.id) []) 0 ps) ≡ false = sym (pass _ a) ∙ n in
+    let s : asks_of (HoldsId p.id) [] (get_or ps j nowhere) ≡ false = none_each (asks_of (HoldsId p.id) []) 0 ps t j (omega arith) in
+    clash (eq-eqb (get_or ps j nowhere).id p.id (sym e)) (sym (says_live (HoldsId p.id) [] (get_or ps j nowhere) b) ∙ s)
 distinct_each (p ∷ ps) h (suc i) (suc j) l k a b e = distinct_each ps (and_right (not (clashes p ps)) (distinct_ids ps) h) i j (omega arith) (omega arith) a b e
 
 each_distinct : (ps : List Place)
@@ -53,10 +52,10 @@ each_distinct : (ps : List Place)
 each_distinct [] f = refl
 each_distinct (p ∷ ps) f = pass _ (ap not (go p.live refl)) ∙ each_distinct ps (λ i j l k a b e. f (suc i) (suc j) (omega arith) (omega arith) a b e)
   where
-    apart : p.live ≡ true → is_there (first_from (asks_of (Holds p.id) []) 0 ps) ≡ false
+    apart : p.live ≡ true → is_there (first_from (asks_of (HoldsId p.id) []) 0 ps) ≡ false
     apart a =
-        each_none (asks_of (Holds p.id) []) 0 ps
-        (λ j l. says_no (Holds p.id) [] (get_or ps j nowhere)
+        each_none (asks_of (HoldsId p.id) []) 0 ps
+        (λ j l. says_no (HoldsId p.id) [] (get_or ps j nowhere)
         (λ b. ne_eqb (get_or ps j nowhere).id p.id (λ e. f 0 (suc j) (omega arith) (omega arith) a b (sym e))) (λ b. refl))
 
     go : (b : Bool) → p.live ≡ b → clashes p ps ≡ false

@@ -1,10 +1,10 @@
 -- The words in which the laws of the groups are stated
-use Rattle.std.specs.Prelude.{ℕ, ◌+◌, ◌<◌, ◌≤◌, ◌≡◌, Bool, true, false, set, []}
-use Rattle.queue_record.specs.Refusals.{done}
+use Rattle.std.specs.Prelude.{ℕ, ◌+◌, ◌<◌, ◌≤◌, ◌≡◌, Bool, true, false, set, [], None}
+use Rattle.queue_record.specs.Refusals.{done, refusal_number}
+use Rattle.queue_record.specs.declared.refusal.Refusal.{Refusal}
 use Rattle.queue_record.specs.Record.{Sized}
 use Rattle.queue_record.specs.WellFormed.{well_formed}
 use Rattle.queue_record.specs.declared.record.Queue.{Queue}
-use Rattle.queue_record.specs.declared.record.Selection.TheVariants.{Free}
 use Rattle.queue_steps.specs.Attempts.{slot}
 use Rattle.group_record.specs.Record.{place_at, queue_at, live_place}
 use Rattle.group_record.specs.declared.record.Groups.{Groups}
@@ -45,7 +45,7 @@ EveryLive g asks = (i : ℕ) → i < 16 → LiveAt g i → asks (id_at g i) (que
 
 -- R109, in parts: no undo in any slot, none selected, out or failed, and no pending stage
 pub record DrainedQueue (q : Queue) : Type 0 where
-  pub selection : q.selection ≡ Free
+  pub selection : q.selection ≡ None
   pub slots : (k : ℕ) → slot q k ≡ 0
   pub waiting : waiting q ≡ []
   pub issued : q.issued ≡ false
@@ -86,5 +86,5 @@ abbrev pub AllSized : Groups → Type 0
 AllSized g = (i : ℕ) → i < 16 → Sized (queue_at g i)
 
 -- R63: where the answer is a refusal its number is not 0, which is said of what is done alone
-abbrev pub Numbered : {A : Type 0} → (ℕ → A) → A → Type 0
-Numbered refused answer = (n : ℕ) → answer ≡ refused n → n ≡ done → ⊥
+abbrev pub Numbered : {A : Type 0} → (Refusal → A) → A → Type 0
+Numbered refused answer = (r : Refusal) → answer ≡ refused r → refusal_number r ≡ done → ⊥

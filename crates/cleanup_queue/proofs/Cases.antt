@@ -19,54 +19,54 @@ use Rattle.queue_record.specs.Newest.{newest}
 use Rattle.queue_record.specs.Openings.{opened, scope_of, iterator_of, iterator_opened}
 use Rattle.queue_record.specs.declared.record.Kind.TheVariants.{Scope}
 use Rattle.queue_record.specs.declared.record.Ticket.{Ticket}
-use Rattle.queue_record.specs.declared.record.Selection.{Selection}
-use Rattle.queue_record.specs.declared.record.Selection.TheVariants.{Free, Of}
 use Rattle.queue_record.specs.declared.record.Queue.{Queue}
 use Rattle.queue_record.proofs.OpenedLaws.{scope_well_formed}
 use Rattle.queue_births.specs.Births.{born, grown, born_by, registered, landed}
 use Rattle.queue_steps.specs.Attempts.{popped, completed, retried}
-use Rattle.queue_births.specs.declared.births.RegisterAnswer.{RegisterAnswer}
 use Rattle.queue_stages.specs.Stages.{admitted}
 use Rattle.cleanup_queue.specs.Answers.{Said, says, registered_says, popped_says, completed_says, retried_says}
 use Rattle.cleanup_queue.specs.Marked.{new_scope, two, out, failed, out_again, last, last_out, spent, registers, table, definition_says, paper_says}
 use Rattle.cleanup_queue.proofs.Keeps.{register_keeps}
+use Rattle.std.specs.Prelude.{Option, Some, None}
+use Rattle.queue_record.specs.declared.answered.Answered.{Answered}
+use Rattle.queue_births.specs.Types.{Registered}
 
 -- ---- the scope of W2 to W9 at each step, written out, so that each case computes from the one before
 abbrev ticket : ℕ → ℕ → Ticket
 ticket token attempt = record { domain = 0; token = token; attempt = attempt }
 
-abbrev at : ℕ → ℕ → ℕ → Selection → Bool → Bool → Queue
+abbrev at : ℕ → ℕ → ℕ → Option Ticket → Bool → Bool → Queue
 at next first second s failed issued = with_issued (with_failed (with_selection (with_count (with_slot (with_slot (opened Scope Ended 0 next []) 0 first) 1 second) 2) s) failed) issued
 
-two_is : two ≡ at 0 71 72 Free false false
+two_is : two ≡ at 0 71 72 None false false
 unfolding well_formed scope_of registered register_refusal
 two_is = refl
 
-out_is : out ≡ at 1 71 0 (Of (ticket 1 0)) false true
+out_is : out ≡ at 1 71 0 (Some (ticket 1 0)) false true
 unfolding well_formed newest popped pop_due
 out_is = ap (λ (q : Queue). (popped q).queue) two_is
 
-failed_is : failed ≡ at 1 71 72 (Of (ticket 1 0)) true false
+failed_is : failed ≡ at 1 71 72 (Some (ticket 1 0)) true false
 unfolding well_formed completed complete_refusal
 failed_is = ap (λ (q : Queue). (completed q (ticket 1 0) 1 72).queue) out_is
 
-renewed_is : (retried failed).queue ≡ at 2 71 72 (Of (ticket 1 1)) false false
+renewed_is : (retried failed).queue ≡ at 2 71 72 (Some (ticket 1 1)) false false
 unfolding well_formed retried retry_due
 renewed_is = ap (λ (q : Queue). (retried q).queue) failed_is
 
-out_again_is : out_again ≡ at 2 71 0 (Of (ticket 1 1)) false true
+out_again_is : out_again ≡ at 2 71 0 (Some (ticket 1 1)) false true
 unfolding well_formed popped pop_due
 out_again_is = ap (λ (q : Queue). (popped q).queue) renewed_is
 
-last_is : last ≡ at 2 71 0 Free false false
+last_is : last ≡ at 2 71 0 None false false
 unfolding well_formed completed complete_refusal
 last_is = ap (λ (q : Queue). (completed q (ticket 1 1) 0 0).queue) out_again_is
 
-last_out_is : last_out ≡ at 3 0 0 (Of (ticket 0 2)) false true
+last_out_is : last_out ≡ at 3 0 0 (Some (ticket 0 2)) false true
 unfolding well_formed newest popped pop_due
 last_out_is = ap (λ (q : Queue). (popped q).queue) last_is
 
-spent_is : spent ≡ at 3 0 0 (Of (ticket 0 2)) true false
+spent_is : spent ≡ at 3 0 0 (Some (ticket 0 2)) true false
 unfolding well_formed completed complete_refusal
 spent_is = ap (λ (q : Queue). (completed q (ticket 0 2) 1 0).queue) last_out_is
 
@@ -143,14 +143,14 @@ counted : (n : ℕ) → n ≤ 64 → Counted n
 counted zero l = (opened_count, scope_well_formed 0 0)
 counted (suc n) l =
     let h : Counted n = counted n (omega arith) in
-    (ap (λ (r : RegisterAnswer). r.queue.count) (taken n l h) ∙ (ap (λ (k : ℕ). k + 1) h.0 ∙ add-one n), register_keeps (registers n) 5 h.1)
+    (ap (λ (r : Answered Registered). r.queue.count) (taken n l h) ∙ (ap (λ (k : ℕ). k + 1) h.0 ∙ add-one n), register_keeps (registers n) 5 h.1)
 
 w12_last : registered_says (registered (registers 63) 6).answer ≡ says 0 (63 ∷ [])
 unfolding registered register_refusal
 w12_last =
     let h = counted 63 (omega arith) in
     let e : (registers 63).count ≡ 63 = h.0 in
-    ap (λ (r : RegisterAnswer). registered_says r.answer) (miss _ (ap not h.1)
+    ap (λ (r : Answered Registered). registered_says r.answer) (miss _ (ap not h.1)
     ∙ ap (born_by (registers 63) 6 (grown (registers 63) 6)) (miss _ (lt-leb 64 (registers 63).count (omega arith))))
     ∙ ap (λ (k : ℕ). says 0 (k ∷ [])) e
 
@@ -159,7 +159,7 @@ unfolding registered register_refusal
 w12_full =
     let h = counted 64 (omega arith) in
     let e : (registers 64).count ≡ 64 = h.0 in
-    ap (λ (r : RegisterAnswer). registered_says r.answer) (miss _ (ap not h.1) ∙ ap (born_by (registers 64) 6 (grown (registers 64) 6)) (hit _ (le-leb 64 (registers 64).count (omega arith))))
+    ap (λ (r : Answered Registered). registered_says r.answer) (miss _ (ap not h.1) ∙ ap (born_by (registers 64) 6 (grown (registers 64) 6)) (hit _ (le-leb 64 (registers 64).count (omega arith))))
 
 -- ---- the statement
 rows : {x y : Said} {xs ys : List Said} → x ≡ y → xs ≡ ys → x ∷ xs ≡ y ∷ ys

@@ -19,24 +19,22 @@ use Rattle.queue_record.specs.WellFormed.{all_zero, rest_zero, is_selected, mark
 use Rattle.queue_record.specs.declared.record.Kind.{Kind}
 use Rattle.queue_record.specs.declared.record.Kind.TheVariants.{Scope, Iterator}
 use Rattle.queue_record.specs.declared.record.Ticket.{Ticket}
-use Rattle.queue_record.specs.declared.record.Selection.{Selection}
-use Rattle.queue_record.specs.declared.record.Selection.TheVariants.{Free, Of}
 use Rattle.queue_record.specs.declared.record.Queue.{Queue}
 use Rattle.queue_record.proofs.Zeros.{full_below}
 use Rattle.queue_record.proofs.Fit.{Fit, fit, fits, ticket_fits_lem, selected_domain, selected_born, selected_before, failed_not_issued, issued_not_failed}
 use Rattle.queue_births.specs.Births.{grown, registered, landed}
 use Rattle.queue_decisions.specs.Slots.{no_more}
 use Rattle.queue_steps.specs.Attempts.{slot, issued_to, fresh_ticket, popped, took_back, completed, retry_allowed, renewed, again, retried}
-use Rattle.queue_births.specs.declared.births.RegisterAnswer.{RegisterAnswer}
 use Rattle.queue_births.proofs.Grown.{grown_fits}
-use Rattle.queue_steps.specs.declared.attempts.PopAnswer.{PopAnswer}
-use Rattle.queue_steps.specs.declared.attempts.CompleteAnswer.{CompleteAnswer}
-use Rattle.queue_steps.specs.declared.attempts.RetryAnswer.{RetryAnswer}
 use Rattle.queue_stages.specs.Stages.{admitted, ended, cancelled_by}
-use Rattle.queue_stages.specs.declared.stages.StageAnswer.{StageAnswer}
-use Rattle.queue_stages.specs.declared.stages.CancelAnswer.{CancelAnswer}
 use Rattle.cleanup_queue.specs.Runs.{Call, register, land, pop, complete, retry, admit, end, cancel, after, after_all}
 use Rattle.cleanup_queue.proofs.ByCase.{register_by, land_by, Popping, pop_by, Outside, complete_by, retry_by}
+use Rattle.std.specs.Prelude.{Option, Some, None}
+use Rattle.queue_record.specs.declared.answered.Answered.{Answered}
+use Rattle.queue_births.specs.Types.{Registered}
+use Rattle.queue_questions.specs.Types.{Told}
+use Rattle.queue_stages.specs.Types.{Cancelled}
+use Rattle.queue_steps.specs.Types.{Completed, Popped, Retried}
 
 -- ---- slots
 -- a store below the count leaves the places past it
@@ -53,7 +51,7 @@ emptied_slot l i = go (ltb i (length l)) refl
 
 -- ---- register
 pub register_keeps : (q : Queue) (n : ℕ) → well_formed q ≡ true → well_formed (registered q n).queue ≡ true
-register_keeps q n h = register_by (λ (r : RegisterAnswer). well_formed r.queue ≡ true) q n (λ _. h) (λ w z k. grown_fits q n w k)
+register_keeps q n h = register_by (λ (r : Answered Registered). well_formed r.queue ≡ true) q n (λ _. h) (λ w z k. grown_fits q n w k)
 
 -- ---- the stage
 -- a settled stage stays settled, so a scope's phase stays Ended or Closed
@@ -81,21 +79,21 @@ moved_fits : (q : Queue) (e : Event) → well_formed q ≡ true → well_formed 
 moved_fits q e h = phase_fits q (phase_after q.phase e) (fit q h) (scope_moves q.kind q.bound q.phase e (fit q h).scope)
 
 pub land_keeps : (q : Queue) (n : ℕ) → well_formed q ≡ true → well_formed (landed q n).queue ≡ true
-land_keeps q n h = land_by (λ (r : RegisterAnswer). well_formed r.queue ≡ true) q n (λ _. h) (λ w z p k. moved_fits (grown q n) Land (grown_fits q n w k))
+land_keeps q n h = land_by (λ (r : Answered Registered). well_formed r.queue ≡ true) q n (λ _. h) (λ w z p k. moved_fits (grown q n) Land (grown_fits q n w k))
 
 pub admit_keeps : (q : Queue) (matched : Bool) → well_formed q ≡ true → well_formed (admitted q matched).queue ≡ true
 unfolding admitted
 admit_keeps q matched h =
-    if_by (λ (r : StageAnswer). well_formed r.queue ≡ true) (not (well_formed q)) _ _ (λ _. h)
+    if_by (λ (r : Answered Told). well_formed r.queue ≡ true) (not (well_formed q)) _ _ (λ _. h)
     (λ _. if_by (λ (p : Phase). well_formed (with_phase q p) ≡ true) matched _ _ (λ _. moved_fits q Admit h) (λ _. h))
 
 pub end_keeps : (q : Queue) → well_formed q ≡ true → well_formed (ended q).queue ≡ true
 unfolding ended
-end_keeps q h = if_by (λ (r : StageAnswer). well_formed r.queue ≡ true) (not (well_formed q)) _ _ (λ _. h) (λ _. moved_fits q End h)
+end_keeps q h = if_by (λ (r : Answered Told). well_formed r.queue ≡ true) (not (well_formed q)) _ _ (λ _. h) (λ _. moved_fits q End h)
 
 pub cancel_keeps : (q : Queue) → well_formed q ≡ true → well_formed (cancelled_by q).queue ≡ true
 unfolding cancelled_by
-cancel_keeps q h = if_by (λ (r : CancelAnswer). well_formed r.queue ≡ true) (not (well_formed q)) _ _ (λ _. h) (λ _. moved_fits q Cancel h)
+cancel_keeps q h = if_by (λ (r : Answered Cancelled). well_formed r.queue ≡ true) (not (well_formed q)) _ _ (λ _. h) (λ _. moved_fits q Cancel h)
 
 -- ---- pop
 module _ (q : Queue) where
@@ -114,7 +112,7 @@ module _ (q : Queue) where
 
   pub pop_keeps : well_formed q ≡ true → well_formed (popped q).queue ≡ true
   pop_keeps h =
-      pop_by (λ (r : PopAnswer). well_formed r.queue ≡ true) q (λ _ _. h) h
+      pop_by (λ (r : Answered Popped). well_formed r.queue ≡ true) q (λ _ _. h) h
       (λ p e token n full room. issued_fits (fresh_ticket q token) (q.next + 1) p refl (full_below q.count q.slots token (fit q h).slots full) (omega arith))
       (λ p t e full. issued_fits t q.next p (selected_domain q t h e) (selected_born q t h e) (selected_before q t h e))
 
@@ -126,8 +124,8 @@ module _ (q : Queue) (t : Ticket) (o : Outside q t) where
   token_born : t.token < q.count
   token_born = selected_born q t o.sound o.selected
 
-  done_fits : (kept : ℕ) → well_formed (with_selection (took_back q t.token kept) Free) ≡ true
-  done_fits kept = fits (with_selection (took_back q t.token kept) Free) (record {
+  done_fits : (kept : ℕ) → well_formed (with_selection (took_back q t.token kept) None) ≡ true
+  done_fits kept = fits (with_selection (took_back q t.token kept) None) (record {
     given = f.given;
     count = f.count;
     slots = rest_kept q t.token kept f token_born;
@@ -144,17 +142,17 @@ module _ (q : Queue) (t : Ticket) (o : Outside q t) where
     slots = rest_kept q t.token kept f token_born;
     scope = f.scope;
     ticket = f.ticket;
-    marks = ap (λ (s : Selection). marks_fit (is_selected s) true false) o.selected;
+    marks = ap (λ (s : Option Ticket). marks_fit (is_selected s) true false) o.selected;
     selected = ap (selected_fits true false (set q.slots t.token kept)) o.selected;
   })
 
 pub complete_keeps : (q : Queue) (t : Ticket) (outcome kept : ℕ) → well_formed q ≡ true → well_formed (completed q t outcome kept).queue ≡ true
 complete_keeps q t outcome kept h =
-    complete_by (λ (r : CompleteAnswer). well_formed r.queue ≡ true) q t outcome kept (λ _. h)
+    complete_by (λ (r : Answered Completed). well_formed r.queue ≡ true) q t outcome kept (λ _. h)
     (λ o _ _. if_by (λ (p : Queue). well_formed p ≡ true) (eqb outcome 0) _ _ (λ _. done_fits q t o kept) (λ _. failed_fits q t o kept))
 
 -- ---- retry
-module _ (q : Queue) (h : well_formed q ≡ true) (t : Ticket) (e : q.selection ≡ Of t) (a : retry_allowed q (Of t) ≡ true) where
+module _ (q : Queue) (h : well_formed q ≡ true) (t : Ticket) (e : q.selection ≡ Some t) (a : retry_allowed q (Some t) ≡ true) where
   was_failed : q.failed ≡ true
   was_failed = and_left q.failed _ a
 
@@ -178,7 +176,7 @@ module _ (q : Queue) (h : well_formed q ≡ true) (t : Ticket) (e : q.selection 
       })
 
 pub retry_keeps : (q : Queue) → well_formed q ≡ true → well_formed (retried q).queue ≡ true
-retry_keeps q h = retry_by (λ (r : RetryAnswer). well_formed r.queue ≡ true) q (λ _. h) (λ w t e a. again_fits q h t e a)
+retry_keeps q h = retry_by (λ (r : Answered Retried). well_formed r.queue ≡ true) q (λ _. h) (λ w t e a. again_fits q h t e a)
 
 -- ---- all calls, and runs
 pub call_keeps : (q : Queue) (c : Call) → well_formed q ≡ true → well_formed (after q c) ≡ true

@@ -1,12 +1,14 @@
 -- Each call answers the first refusal that is due, and 0 where none is; a refusal leaves the record, and returns the number given
 use Prim.Native.Nat.{ℕ}
-use mathlib.Core.Path.{◌≡◌, refl, ap, ◌∙◌}
+use mathlib.Core.Path.{◌≡◌, refl, sym, ap, ◌∙◌}
 use mathlib.Core.Bool.{Bool, not}
 use mathlib.Core.List.{List, [], ◌∷◌}
 use native.Mathlib.Omega.{arith}
 use Rattle.choice.specs.Choice.{bit}
 use Rattle.stage.specs.Phases.{is_pending, is_settled, is_cancelled}
 use Rattle.choice.proofs.Ways.{if_by}
+use Rattle.queue_record.specs.Refusals.{result_number}
+use Rattle.queue_record.specs.declared.refusal.Refusal.{Refusal}
 use Rattle.queue_record.specs.WellFormed.{well_formed}
 use Rattle.queue_record.specs.Waiting.{waiting}
 use Rattle.queue_record.specs.Openings.{Opening, opened_as}
@@ -14,33 +16,32 @@ use Rattle.queue_record.specs.declared.record.Ticket.{Ticket}
 use Rattle.queue_record.specs.declared.record.Queue.{Queue}
 use Rattle.queue_births.specs.Births.{registered, landed}
 use Rattle.queue_steps.specs.Attempts.{popped, completed, retry_allowed, retried}
-use Rattle.queue_births.specs.declared.births.Registered.{Registered}
-use Rattle.queue_births.specs.declared.births.RegisterAnswer.{RegisterAnswer}
-use Rattle.queue_steps.specs.declared.attempts.Popped.{Popped}
-use Rattle.queue_steps.specs.declared.attempts.PopAnswer.{PopAnswer}
-use Rattle.queue_steps.specs.declared.attempts.Completed.{Completed}
-use Rattle.queue_steps.specs.declared.attempts.CompleteAnswer.{CompleteAnswer}
-use Rattle.queue_steps.specs.declared.attempts.Retried.{Retried}
-use Rattle.queue_steps.specs.declared.attempts.RetryAnswer.{RetryAnswer}
 use Rattle.queue_questions.specs.Questions.{yes_or_no, asked, committed, nothing_left, finishable, is_empty_told, is_issued_told, is_pending_told}
 use Rattle.queue_questions.specs.Questions.{is_settled_told, is_cancelled_told, has_failed_told, can_retry_told, can_finish_told, domain_told}
-use Rattle.queue_questions.specs.declared.questions.Told.{Told}
 use Rattle.queue_stages.specs.Stages.{after_admit, admitted, ended, cancelled_by}
-use Rattle.queue_stages.specs.declared.stages.StageAnswer.{StageAnswer}
-use Rattle.queue_stages.specs.declared.stages.CancelAnswer.{CancelAnswer}
-use Rattle.queue_stages.specs.declared.stages.Cancelled.{Cancelled}
 use Rattle.cleanup_queue.specs.Answers.{Said, opened_says, registered_says, popped_says, completed_says, retried_says, told_says, cancelled_says, domain_says}
-use Rattle.cleanup_queue.specs.Orders.{Ground, first_due, first_said, opening_order, register_order, land_order, pop_order, work_values, complete_order}
+use Rattle.cleanup_queue.specs.Orders.{Ground, first_refusal, first_due, first_said, opening_order, register_order, land_order, pop_order, work_values, complete_order}
 use Rattle.cleanup_queue.specs.Orders.{retry_order, renewed_values, broken_only, OnlyBroken}
-use Rattle.cleanup_queue.proofs.ByCase.{register_by, land_by, pop_by, complete_by, retry_by}
+use Rattle.cleanup_queue.proofs.ByCase.{given_back, register_by, land_by, pop_by, complete_by, retry_by}
 use Rattle.cleanup_queue.proofs.Said.{opening_said, register_said, land_said, pop_said_lem, complete_said_lem, retry_said_lem, told_said_lem, asked_said}
 use Rattle.cleanup_queue.proofs.Said.{admit_said, end_said, cancel_said_lem, domain_said_lem, never_refused}
+use Rattle.std.specs.Prelude.{Err}
+use Rattle.queue_record.specs.declared.answered.Answered.{Answered}
+use Rattle.queue_births.specs.Types.{Registered}
+use Rattle.queue_questions.specs.Types.{Told}
+use Rattle.queue_stages.specs.Types.{Cancelled}
+use Rattle.queue_steps.specs.Types.{Completed, Popped, Retried}
 pub use Rattle.cleanup_queue.proofs.Said.{due_if}
 
 -- the number of what is said is the first that is due
 said_number : (ds : List Ground) (back own : List ℕ) → (first_said ds back own).number ≡ first_due ds
 said_number [] back own = refl
 said_number (d ∷ ds) back own = due_if (λ (s : Said). s.number) d.case _ _ refl (said_number ds back own)
+
+-- and of the first that is due
+pub refusal_due : (ds : List Ground) → first_due ds ≡ result_number (first_refusal ds)
+refusal_due [] = refl
+refusal_due (d ∷ ds) = sym (due_if result_number d.case _ _ refl (sym (refusal_due ds)))
 
 first : {s : Said} (ds : List Ground) (back own : List ℕ) → s ≡ first_said ds back own → s.number ≡ first_due ds
 first ds back own e = ap (λ (s : Said). s.number) e ∙ said_number ds back own
@@ -103,44 +104,44 @@ module _ (q : Queue) where
   domain_number = first (broken_only q) [] (q.domain ∷ []) (domain_said_lem q)
 
 -- what a refusal of register or land gives back
-abbrev Returns : Queue → ℕ → RegisterAnswer → Type 0
-Returns q n r = (refusal given : ℕ) → r.answer ≡ Registered.Refused refusal given → (given ≡ n) × (r.queue ≡ q)
+abbrev Returns : Queue → ℕ → Answered Registered → Type 0
+Returns q n r = (refusal : Refusal) (given : ℕ) → r.answer ≡ Err (refusal, given) → (given ≡ n) × (r.queue ≡ q)
 
 -- ---- a refusal changes nothing, and the number given comes back
-pub register_returns : (q : Queue) (n refusal given : ℕ) → (registered q n).answer ≡ Registered.Refused refusal given → (given ≡ n) × ((registered q n).queue ≡ q)
-register_returns q n = register_by (Returns q n) q n (λ m refusal given e. (cc, refl)) (λ _ _ _ refusal given e. let z : ◌≡◌ {A = ℕ} 0 1 = cc in absurd (omega arith))
+pub register_returns : (q : Queue) (n : ℕ) (refusal : Refusal) (given : ℕ) → (registered q n).answer ≡ Err (refusal, given) → (given ≡ n) × ((registered q n).queue ≡ q)
+register_returns q n = register_by (Returns q n) q n (λ m refusal given e. (sym (given_back e), refl)) (λ _ _ _ refusal given e. let z : ◌≡◌ {A = ℕ} 0 1 = cc in absurd (omega arith))
 
-pub land_returns : (q : Queue) (n refusal given : ℕ) → (landed q n).answer ≡ Registered.Refused refusal given → (given ≡ n) × ((landed q n).queue ≡ q)
-land_returns q n = land_by (Returns q n) q n (λ m refusal given e. (cc, refl)) (λ _ _ _ _ refusal given e. let z : ◌≡◌ {A = ℕ} 0 1 = cc in absurd (omega arith))
+pub land_returns : (q : Queue) (n : ℕ) (refusal : Refusal) (given : ℕ) → (landed q n).answer ≡ Err (refusal, given) → (given ≡ n) × ((landed q n).queue ≡ q)
+land_returns q n = land_by (Returns q n) q n (λ m refusal given e. (sym (given_back e), refl)) (λ _ _ _ _ refusal given e. let z : ◌≡◌ {A = ℕ} 0 1 = cc in absurd (omega arith))
 
-pub complete_returns : (q : Queue) (t : Ticket) (outcome kept refusal given : ℕ)
-    → (completed q t outcome kept).answer ≡ Completed.Refused refusal given → (given ≡ kept) × ((completed q t outcome kept).queue ≡ q)
+pub complete_returns : (q : Queue) (t : Ticket) (outcome kept : ℕ) (refusal : Refusal) (given : ℕ)
+    → (completed q t outcome kept).answer ≡ Err (refusal, given) → (given ≡ kept) × ((completed q t outcome kept).queue ≡ q)
 complete_returns q t outcome kept =
-    complete_by (λ (r : CompleteAnswer). (refusal given : ℕ) → r.answer ≡ Completed.Refused refusal given → (given ≡ kept) × (r.queue ≡ q)) q t outcome kept
-    (λ m refusal given e. (cc, refl)) (λ _ _ _ refusal given e. let z : ◌≡◌ {A = ℕ} 0 1 = cc in absurd (omega arith))
+    complete_by (λ (r : Answered Completed). (refusal : Refusal) (given : ℕ) → r.answer ≡ Err (refusal, given) → (given ≡ kept) × (r.queue ≡ q)) q t outcome kept
+    (λ m refusal given e. (sym (given_back e), refl)) (λ _ _ _ refusal given e. let z : ◌≡◌ {A = ℕ} 0 1 = cc in absurd (omega arith))
 
-pub pop_returns : (q : Queue) (refusal : ℕ) → (popped q).answer ≡ Popped.Refused refusal → (popped q).queue ≡ q
+pub pop_returns : (q : Queue) (refusal : Refusal) → (popped q).answer ≡ Err refusal → (popped q).queue ≡ q
 pop_returns q =
-    pop_by (λ (r : PopAnswer). (refusal : ℕ) → r.answer ≡ Popped.Refused refusal → r.queue ≡ q) q (λ _ _ _ _. refl) (λ _ _. refl)
+    pop_by (λ (r : Answered Popped). (refusal : Refusal) → r.answer ≡ Err refusal → r.queue ≡ q) q (λ _ _ _ _. refl) (λ _ _. refl)
     (λ _ _ _ _ _ _ refusal e. let z : ◌≡◌ {A = ℕ} 0 1 = cc in absurd (omega arith)) (λ _ _ _ _ refusal e. let z : ◌≡◌ {A = ℕ} 0 1 = cc in absurd (omega arith))
 
-pub retry_returns : (q : Queue) (refusal : ℕ) → (retried q).answer ≡ Retried.Refused refusal → (retried q).queue ≡ q
+pub retry_returns : (q : Queue) (refusal : Refusal) → (retried q).answer ≡ Err refusal → (retried q).queue ≡ q
 retry_returns q =
-    retry_by (λ (r : RetryAnswer). (refusal : ℕ) → r.answer ≡ Retried.Refused refusal → r.queue ≡ q) q (λ _ _ _. refl)
+    retry_by (λ (r : Answered Retried). (refusal : Refusal) → r.answer ≡ Err refusal → r.queue ≡ q) q (λ _ _ _. refl)
     (λ _ _ _ _ refusal e. let z : ◌≡◌ {A = ℕ} 0 1 = cc in absurd (omega arith))
 
-pub admit_returns : (q : Queue) (matched : Bool) (refusal : ℕ) → (admitted q matched).answer ≡ Told.Refused refusal → (admitted q matched).queue ≡ q
+pub admit_returns : (q : Queue) (matched : Bool) (refusal : Refusal) → (admitted q matched).answer ≡ Err refusal → (admitted q matched).queue ≡ q
 unfolding admitted
 admit_returns q matched refusal =
-    if_by (λ (r : StageAnswer). r.answer ≡ Told.Refused refusal → r.queue ≡ q) (not (well_formed q)) _ _
+    if_by (λ (r : Answered Told). r.answer ≡ Err refusal → r.queue ≡ q) (not (well_formed q)) _ _
     (λ _ _. refl) (λ _ e. never_refused (is_pending (after_admit q.phase matched)) refusal e)
 
-pub end_returns : (q : Queue) (refusal : ℕ) → (ended q).answer ≡ Told.Refused refusal → (ended q).queue ≡ q
+pub end_returns : (q : Queue) (refusal : Refusal) → (ended q).answer ≡ Err refusal → (ended q).queue ≡ q
 unfolding ended
-end_returns q refusal = if_by (λ (r : StageAnswer). r.answer ≡ Told.Refused refusal → r.queue ≡ q) (not (well_formed q)) _ _ (λ _ _. refl) (λ _ e. never_refused (is_pending q.phase) refusal e)
+end_returns q refusal = if_by (λ (r : Answered Told). r.answer ≡ Err refusal → r.queue ≡ q) (not (well_formed q)) _ _ (λ _ _. refl) (λ _ e. never_refused (is_pending q.phase) refusal e)
 
-pub cancel_returns : (q : Queue) (refusal : ℕ) → (cancelled_by q).answer ≡ Cancelled.Refused refusal → (cancelled_by q).queue ≡ q
+pub cancel_returns : (q : Queue) (refusal : Refusal) → (cancelled_by q).answer ≡ Err refusal → (cancelled_by q).queue ≡ q
 unfolding cancelled_by
 cancel_returns q refusal =
-    if_by (λ (r : CancelAnswer). r.answer ≡ Cancelled.Refused refusal → r.queue ≡ q) (not (well_formed q)) _ _
+    if_by (λ (r : Answered Cancelled). r.answer ≡ Err refusal → r.queue ≡ q) (not (well_formed q)) _ _
     (λ _ _. refl) (λ _ e. let z : ◌≡◌ {A = ℕ} 0 1 = cc in absurd (omega arith))

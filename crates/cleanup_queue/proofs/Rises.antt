@@ -9,29 +9,25 @@ use lib.Dec.{eqb}
 use Rattle.choice.proofs.Ways.{if_by, either, other, and_left}
 use Rattle.queue_record.specs.WellFormed.{well_formed}
 use Rattle.queue_record.specs.declared.record.Ticket.{Ticket}
-use Rattle.queue_record.specs.declared.record.Selection.{Selection}
-use Rattle.queue_record.specs.declared.record.Selection.TheVariants.{Free, Of}
 use Rattle.queue_record.specs.declared.record.Queue.{Queue}
 use Rattle.queue_record.proofs.Fit.{selected_before, failed_not_issued}
-use Rattle.queue_steps.specs.Attempts.{renewed, retried, popped}
-use Rattle.queue_births.specs.declared.births.RegisterAnswer.{RegisterAnswer}
-use Rattle.queue_steps.specs.declared.attempts.Popped.TheVariants.{Work}
-use Rattle.queue_steps.specs.declared.attempts.PopAnswer.{PopAnswer}
-use Rattle.queue_steps.specs.declared.attempts.CompleteAnswer.{CompleteAnswer}
-use Rattle.queue_steps.specs.declared.attempts.Retried.TheVariants.{Again}
-use Rattle.queue_steps.specs.declared.attempts.RetryAnswer.{RetryAnswer}
+use Rattle.queue_steps.specs.Attempts.{slot, fresh_ticket, renewed, retried, popped}
 use Rattle.queue_stages.specs.Stages.{admitted, ended, cancelled_by}
-use Rattle.queue_stages.specs.declared.stages.StageAnswer.{StageAnswer}
-use Rattle.queue_stages.specs.declared.stages.CancelAnswer.{CancelAnswer}
 use Rattle.cleanup_queue.specs.Runs.{Call, register, land, pop, complete, retry, admit, end, cancel, after, attempt_of, handed_by, attempts, Rising, none, one, more}
-use Rattle.cleanup_queue.proofs.ByCase.{register_by, land_by, Popping, pop_by, Outside, complete_by, retry_by}
+use Rattle.cleanup_queue.proofs.ByCase.{register_by, land_by, Popping, pop_by, work_parts, Outside, complete_by, retry_by}
+use Rattle.std.specs.Prelude.{Option, Some, None, Ok}
+use Rattle.queue_record.specs.declared.answered.Answered.{Answered}
+use Rattle.queue_births.specs.Types.{Registered}
+use Rattle.queue_questions.specs.Types.{Told}
+use Rattle.queue_stages.specs.Types.{Cancelled}
+use Rattle.queue_steps.specs.Types.{Completed, Popped, Retried}
 
 -- ---- what each call does to the attempt that comes next
 -- the attempt that the next handing out carries: a ready ticket's own, or else next
-abbrev pub coming_by : Selection → Bool → ℕ → ℕ
-coming_by Free marked next = next
-coming_by (Of t) true next = next
-coming_by (Of t) false next = t.attempt
+abbrev pub coming_by : Option Ticket → Bool → ℕ → ℕ
+coming_by None marked next = next
+coming_by (Some t) true next = next
+coming_by (Some t) false next = t.attempt
 
 abbrev pub coming : Queue → ℕ
 coming q = coming_by q.selection (q.issued || q.failed) q.next
@@ -44,25 +40,25 @@ Waits q handed p = (handed ≡ []) × (coming p ≡ coming q)
 abbrev Goes : Queue → List ℕ → Queue → Type 0
 Goes q handed p = (handed ≡ coming q ∷ []) × (coming q < coming p)
 
-marked_comes : (s : Selection) (b : Bool) (n : ℕ) → b ≡ true → coming_by s b n ≡ n
-marked_comes Free b n e = refl
-marked_comes (Of t) true n e = refl
-marked_comes (Of t) false n e = let z : ◌≡◌ {A = ℕ} 0 1 = cc in absurd (omega arith)
+marked_comes : (s : Option Ticket) (b : Bool) (n : ℕ) → b ≡ true → coming_by s b n ≡ n
+marked_comes None b n e = refl
+marked_comes (Some t) true n e = refl
+marked_comes (Some t) false n e = let z : ◌≡◌ {A = ℕ} 0 1 = cc in absurd (omega arith)
 
 module _ (q : Queue) where
   -- past pop's first tests neither mark is set
   unmarked : Popping q → (q.issued || q.failed) ≡ false
   unmarked p = other q.failed p.issued ∙ p.failed
 
-  pub fresh_comes : Popping q → q.selection ≡ Free → q.next ≡ coming q
-  fresh_comes p e = sym (ap (λ (s : Selection). coming_by s (q.issued || q.failed) q.next) e)
+  pub fresh_comes : Popping q → q.selection ≡ None → q.next ≡ coming q
+  fresh_comes p e = sym (ap (λ (s : Option Ticket). coming_by s (q.issued || q.failed) q.next) e)
 
-  pub ready_comes : Popping q → (t : Ticket) → q.selection ≡ Of t → t.attempt ≡ coming q
-  ready_comes p t e = sym (ap (λ (s : Selection). coming_by s (q.issued || q.failed) q.next) e ∙ ap (λ (b : Bool). coming_by (Of t) b q.next) (unmarked p))
+  pub ready_comes : Popping q → (t : Ticket) → q.selection ≡ Some t → t.attempt ≡ coming q
+  ready_comes p t e = sym (ap (λ (s : Option Ticket). coming_by s (q.issued || q.failed) q.next) e ∙ ap (λ (b : Bool). coming_by (Some t) b q.next) (unmarked p))
 
   pop_step : Waits q (attempt_of (popped q).answer) (popped q).queue ⊎ Goes q (attempt_of (popped q).answer) (popped q).queue
   pop_step =
-      pop_by (λ (r : PopAnswer). Waits q (attempt_of r.answer) r.queue ⊎ Goes q (attempt_of r.answer) r.queue) q
+      pop_by (λ (r : Answered Popped). Waits q (attempt_of r.answer) r.queue ⊎ Goes q (attempt_of r.answer) r.queue) q
       (λ _ _. inl (refl, refl)) (inl (refl, refl))
       (λ p e token n full room. inr (ap (λ (a : ℕ). a ∷ []) (fresh_comes p e), let c : q.next ≡ coming q = fresh_comes p e in omega arith))
       (λ p t e full. inr (
@@ -77,29 +73,29 @@ module _ (q : Queue) where
 
   complete_comes : (t : Ticket) (outcome kept : ℕ) → coming (after q (complete t outcome kept)) ≡ coming q
   complete_comes t outcome kept =
-      complete_by (λ (r : CompleteAnswer). coming r.queue ≡ coming q) q t outcome kept (λ _. refl)
+      complete_by (λ (r : Answered Completed). coming r.queue ≡ coming q) q t outcome kept (λ _. refl)
       (λ o _ _. if_by (λ (p : Queue). coming p ≡ coming q) (eqb outcome 0) _ _ (λ _. sym (out_comes t o)) (λ _. marked_comes q.selection true q.next refl ∙ sym (out_comes t o)))
 
   retry_comes : coming (after q retry) ≡ coming q
   retry_comes =
-      retry_by (λ (r : RetryAnswer). coming r.queue ≡ coming q) q (λ _. refl)
+      retry_by (λ (r : Answered Retried). coming r.queue ≡ coming q) q (λ _. refl)
       (λ w t e a.
       let f : q.failed ≡ true = and_left q.failed _ a in
-      ap (λ (b : Bool). coming_by (Of (renewed q t)) (b || false) (q.next + 1)) (failed_not_issued q w f)
+      ap (λ (b : Bool). coming_by (Some (renewed q t)) (b || false) (q.next + 1)) (failed_not_issued q w f)
       ∙ sym (marked_comes q.selection (q.issued || q.failed) q.next (ap (λ (b : Bool). q.issued || b) f ∙ or-true q.issued)))
 
   -- whatever holds of pop and of a call that hands out nothing holds of every call
   pub step_by : (R : List ℕ → Queue → Type 0) → ((p : Queue) → coming p ≡ coming q → R [] p) → R (attempt_of (popped q).answer) (popped q).queue
       → (c : Call) → R (handed_by q c) (after q c)
   unfolding admitted ended cancelled_by
-  step_by R waits pops (register n) = waits _ (register_by (λ (r : RegisterAnswer). coming r.queue ≡ coming q) q n (λ _. refl) (λ _ _ _. refl))
-  step_by R waits pops (land n) = waits _ (land_by (λ (r : RegisterAnswer). coming r.queue ≡ coming q) q n (λ _. refl) (λ _ _ _ _. refl))
+  step_by R waits pops (register n) = waits _ (register_by (λ (r : Answered Registered). coming r.queue ≡ coming q) q n (λ _. refl) (λ _ _ _. refl))
+  step_by R waits pops (land n) = waits _ (land_by (λ (r : Answered Registered). coming r.queue ≡ coming q) q n (λ _. refl) (λ _ _ _ _. refl))
   step_by R waits pops pop = pops
   step_by R waits pops (complete t o k) = waits _ (complete_comes t o k)
   step_by R waits pops retry = waits _ retry_comes
-  step_by R waits pops (admit m) = waits _ (if_by (λ (r : StageAnswer). coming r.queue ≡ coming q) (not (well_formed q)) _ _ (λ _. refl) (λ _. refl))
-  step_by R waits pops end = waits _ (if_by (λ (r : StageAnswer). coming r.queue ≡ coming q) (not (well_formed q)) _ _ (λ _. refl) (λ _. refl))
-  step_by R waits pops cancel = waits _ (if_by (λ (r : CancelAnswer). coming r.queue ≡ coming q) (not (well_formed q)) _ _ (λ _. refl) (λ _. refl))
+  step_by R waits pops (admit m) = waits _ (if_by (λ (r : Answered Told). coming r.queue ≡ coming q) (not (well_formed q)) _ _ (λ _. refl) (λ _. refl))
+  step_by R waits pops end = waits _ (if_by (λ (r : Answered Told). coming r.queue ≡ coming q) (not (well_formed q)) _ _ (λ _. refl) (λ _. refl))
+  step_by R waits pops cancel = waits _ (if_by (λ (r : Answered Cancelled). coming r.queue ≡ coming q) (not (well_formed q)) _ _ (λ _. refl) (λ _. refl))
 
   call_step : (c : Call) → Waits q (handed_by q c) (after q c) ⊎ Goes q (handed_by q c) (after q c)
   call_step = step_by (λ handed p. Waits q handed p ⊎ Goes q handed p) (λ p e. inl (refl, e)) pop_step
@@ -142,32 +138,32 @@ attempts_rise q cs = from_rising (coming q) (attempts q cs) (run_from q cs)
 
 -- ---- which attempt a ticket carries
 -- a fresh ticket carries next
-pub fresh_carries : (q : Queue) (t : Ticket) (number : ℕ) → (popped q).answer ≡ Work t number → q.selection ≡ Free → t.attempt ≡ q.next
+pub fresh_carries : (q : Queue) (t : Ticket) (number : ℕ) → (popped q).answer ≡ Ok (Some (t, number)) → q.selection ≡ None → t.attempt ≡ q.next
 fresh_carries q =
-    pop_by (λ (r : PopAnswer). (t : Ticket) (number : ℕ) → r.answer ≡ Work t number → q.selection ≡ Free → t.attempt ≡ q.next) q
+    pop_by (λ (r : Answered Popped). (t : Ticket) (number : ℕ) → r.answer ≡ Ok (Some (t, number)) → q.selection ≡ None → t.attempt ≡ q.next) q
     (λ m _ t number e f. let z : ◌≡◌ {A = ℕ} 0 1 = cc in absurd (omega arith))
     (λ t number e f. let z : ◌≡◌ {A = ℕ} 0 1 = cc in absurd (omega arith))
-    (λ p e token n full room t number w f. cc)
+    (λ p e token n full room t number w f. sym (ap (λ (x : Ticket). x.attempt) (work_parts (fresh_ticket q token) t (slot q token) number w).0))
     (λ p s e full t number w f. let z : ◌≡◌ {A = ℕ} 0 1 = cc in absurd (omega arith))
 
 -- a ready one its own: the ticket that is selected comes out as it is
-pub ready_carries : (q : Queue) (s t : Ticket) (number : ℕ) → (popped q).answer ≡ Work t number → q.selection ≡ Of s → t ≡ s
+pub ready_carries : (q : Queue) (s t : Ticket) (number : ℕ) → (popped q).answer ≡ Ok (Some (t, number)) → q.selection ≡ Some s → t ≡ s
 ready_carries q s =
-    pop_by (λ (r : PopAnswer). (t : Ticket) (number : ℕ) → r.answer ≡ Work t number → q.selection ≡ Of s → t ≡ s) q
+    pop_by (λ (r : Answered Popped). (t : Ticket) (number : ℕ) → r.answer ≡ Ok (Some (t, number)) → q.selection ≡ Some s → t ≡ s) q
     (λ m _ t number e f. let z : ◌≡◌ {A = ℕ} 0 1 = cc in absurd (omega arith))
     (λ t number e f. let z : ◌≡◌ {A = ℕ} 0 1 = cc in absurd (omega arith))
     (λ p e token n full room t number w f. let z : ◌≡◌ {A = ℕ} 0 1 = cc in absurd (omega arith))
-    (λ p u e full t number w f. cc)
+    (λ p u e full t number w f. let same : u ≡ s = cc in sym (work_parts u t (slot q u.token) number w).0 ∙ same)
 
 -- a retried one next, which is larger than the attempt that it had
-pub retried_carries : (q : Queue) (t : Ticket) → (retried q).answer ≡ Again t → (t.attempt ≡ q.next) × ((s : Ticket) → q.selection ≡ Of s → (t.token ≡ s.token) × (s.attempt < t.attempt))
+pub retried_carries : (q : Queue) (t : Ticket) → (retried q).answer ≡ Ok t → (t.attempt ≡ q.next) × ((s : Ticket) → q.selection ≡ Some s → (t.token ≡ s.token) × (s.attempt < t.attempt))
 retried_carries q =
-    retry_by (λ (r : RetryAnswer). (t : Ticket) → r.answer ≡ Again t → (t.attempt ≡ q.next) × ((s : Ticket) → q.selection ≡ Of s → (t.token ≡ s.token) × (s.attempt < t.attempt))) q
+    retry_by (λ (r : Answered Retried). (t : Ticket) → r.answer ≡ Ok t → (t.attempt ≡ q.next) × ((s : Ticket) → q.selection ≡ Some s → (t.token ≡ s.token) × (s.attempt < t.attempt))) q
     (λ n t e. let z : ◌≡◌ {A = ℕ} 0 1 = cc in absurd (omega arith))
     (λ w u e a t h. parts w u e t h)
   where
-    parts : well_formed q ≡ true → (u : Ticket) → q.selection ≡ Of u → (t : Ticket) → Again (renewed q u) ≡ Again t
-        → (t.attempt ≡ q.next) × ((s : Ticket) → q.selection ≡ Of s → (t.token ≡ s.token) × (s.attempt < t.attempt))
+    parts : well_formed q ≡ true → (u : Ticket) → q.selection ≡ Some u → (t : Ticket) → ◌≡◌ {A = Retried} (Ok (renewed q u)) (Ok t)
+        → (t.attempt ≡ q.next) × ((s : Ticket) → q.selection ≡ Some s → (t.token ≡ s.token) × (s.attempt < t.attempt))
     parts w u e t h =
         let r : renewed q u ≡ t = cc in
         let a : q.next ≡ t.attempt = ap (λ (x : Ticket). x.attempt) r in (

@@ -16,12 +16,12 @@ use Rattle.choice.proofs.Ways.{pass, and_left, and_right, clash}
 use Rattle.queue_record.specs.WellFormed.{all_zero, rest_zero, is_selected, ticket_fits, marks_fit, slot_fits, selected_fits, scope_fits, well_formed}
 use Rattle.queue_record.specs.declared.record.Kind.{Kind}
 use Rattle.queue_record.specs.declared.record.Kind.TheVariants.{Scope, Iterator}
-use Rattle.queue_record.specs.declared.record.Selection.{Selection}
-use Rattle.queue_record.specs.declared.record.Selection.TheVariants.{Free, Of}
 use Rattle.queue_record.specs.declared.record.Queue.{Queue}
 use Rattle.queue_record.proofs.Zeros.{rest_at}
 use Rattle.queue_record.proofs.Fit.{Fit, fit, fits, ticket_fits_lem, selected_domain, selected_born, selected_before, issued_not_failed, free_no_marks, issued_empty_lem, ready_occupied}
 use Rattle.cleanup_queue.specs.SoundQueues.{SoundQueue}
+use Rattle.std.specs.Prelude.{Option, Some, None}
+use Rattle.queue_record.specs.declared.record.Ticket.{Ticket}
 
 -- ---- places that are 0, one by one
 zeros_all : (xs : List ℕ) → ((i : ℕ) → get_or xs i 0 ≡ 0) → all_zero xs ≡ true
@@ -83,17 +83,17 @@ module _ (q : Queue) where
 
   -- ---- to the check
   module _ (s : SoundQueue q) where
-    sound_ticket : (c : Selection) → q.selection ≡ c → ticket_fits q.domain q.count q.next c ≡ true
-    sound_ticket Free e = refl
-    sound_ticket (Of t) e = let p = s.ticket t e in ticket_fits_lem q.domain q.count q.next t p.0 p.1 p.2
+    sound_ticket : (c : Option Ticket) → q.selection ≡ c → ticket_fits q.domain q.count q.next c ≡ true
+    sound_ticket None e = refl
+    sound_ticket (Some t) e = let p = s.ticket t e in ticket_fits_lem q.domain q.count q.next t p.0 p.1 p.2
 
-    unselected : (c : Selection) → q.selection ≡ c → is_selected c ≡ false → (q.failed ≡ false) × (q.issued ≡ false)
-    unselected Free e n = s.unmarked e
-    unselected (Of t) e n = clash {b = true} refl n
+    unselected : (c : Option Ticket) → q.selection ≡ c → is_selected c ≡ false → (q.failed ≡ false) × (q.issued ≡ false)
+    unselected None e n = s.unmarked e
+    unselected (Some t) e n = clash {b = true} refl n
 
-    sound_selected : (c : Selection) → q.selection ≡ c → selected_fits q.failed q.issued q.slots c ≡ true
-    sound_selected Free e = refl
-    sound_selected (Of t) e = parts_slot q.failed q.issued (get_or q.slots t.token 0) (s.issued_empty t e) (s.ready_full t e) s.one_mark
+    sound_selected : (c : Option Ticket) → q.selection ≡ c → selected_fits q.failed q.issued q.slots c ≡ true
+    sound_selected None e = refl
+    sound_selected (Some t) e = parts_slot q.failed q.issued (get_or q.slots t.token 0) (s.issued_empty t e) (s.ready_full t e) s.one_mark
 
     sound_well_formed : well_formed q ≡ true
     sound_well_formed = fits q (record {

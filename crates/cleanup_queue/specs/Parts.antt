@@ -1,5 +1,5 @@
 -- R59: what becomes of each part of a record, in an opening and in each call; together the laws name every part for every call
-use Rattle.std.specs.Prelude.{ℕ, ◌+◌, ◌≡◌, false, [], ◌∷◌, ◌++◌, eqb, length, replicate, set, take}
+use Rattle.std.specs.Prelude.{ℕ, ◌+◌, ◌≡◌, false, [], ◌∷◌, ◌++◌, eqb, length, replicate, set, take, Some, None, Ok}
 use Rattle.stage.specs.Phases.{is_pending}
 use Rattle.stage.specs.declared.phases.Phase.{Phase}
 use Rattle.stage.specs.declared.phases.Phase.TheVariants.{Idle, Ended}
@@ -8,17 +8,15 @@ use Rattle.queue_record.specs.declared.record.Kind.{Kind}
 use Rattle.queue_record.specs.declared.record.Kind.TheVariants.{Scope, Iterator}
 use Rattle.queue_record.specs.Waiting.{waiting}
 use Rattle.queue_record.specs.declared.record.Ticket.{Ticket}
-use Rattle.queue_record.specs.declared.record.Selection.TheVariants.{Free, Of}
 use Rattle.queue_record.specs.declared.record.Queue.{Queue}
-use Rattle.queue_births.specs.declared.births.Registered.TheVariants.{Token}
-use Rattle.queue_births.specs.declared.births.RegisterAnswer.{RegisterAnswer}
-use Rattle.queue_steps.specs.declared.attempts.Popped.TheVariants.{Work}
-use Rattle.queue_steps.specs.declared.attempts.PopAnswer.{PopAnswer}
+use Rattle.queue_record.specs.declared.answered.Answered.{Answered}
+use Rattle.queue_births.specs.Types.{Registered}
+use Rattle.queue_steps.specs.Types.{Popped}
 
 -- ---- openings, and what they give for good
 -- R23: no token, nothing out, nothing selected, nothing waiting, and the stage not pending
 abbrev pub Fresh : Queue → Type 0
-Fresh q = (q.count ≡ 0) × (q.issued ≡ false) × (q.selection ≡ Free) × (waiting q ≡ []) × (is_pending q.phase ≡ false)
+Fresh q = (q.count ≡ 0) × (q.issued ≡ false) × (q.selection ≡ None) × (waiting q ≡ []) × (is_pending q.phase ≡ false)
 
 -- the phase that a kind starts in
 abbrev pub start_phase : Kind → Phase
@@ -32,7 +30,7 @@ pub record OpenedParts (o : Opening) (q : Queue) : Type 0 where
   pub next : q.next ≡ o.heading.first
   pub slots : q.slots ≡ replicate 64 0
   pub count : q.count ≡ 0
-  pub selection : q.selection ≡ Free
+  pub selection : q.selection ≡ None
   pub failed : q.failed ≡ false
   pub issued : q.issued ≡ false
   pub phase : q.phase ≡ start_phase o.heading.kind
@@ -49,31 +47,31 @@ abbrev pub LeavesSelected : Queue → Queue → Type 0
 LeavesSelected q p = (p.selection ≡ q.selection) × (p.failed ≡ q.failed) × (p.issued ≡ q.issued) × (p.next ≡ q.next)
 
 -- R38: the token is the number of slots in use, these get the number behind them, and no other place is stored to
-abbrev pub Pushes : Queue → ℕ → RegisterAnswer → Type 0
-Pushes q n r = (token : ℕ) → r.answer ≡ Token token → (token ≡ q.count) × (take r.queue.count r.queue.slots ≡ take q.count q.slots ++ (n ∷ [])) × (r.queue.count ≡ q.count + 1) × (r.queue.slots ≡ set q.slots q.count n)
+abbrev pub Pushes : Queue → ℕ → Answered Registered → Type 0
+Pushes q n r = (token : ℕ) → r.answer ≡ Ok token → (token ≡ q.count) × (take r.queue.count r.queue.slots ≡ take q.count q.slots ++ (n ∷ [])) × (r.queue.count ≡ q.count + 1) × (r.queue.slots ≡ set q.slots q.count n)
 
 -- R11: the token waits behind the others
-abbrev pub Appends : Queue → RegisterAnswer → Type 0
-Appends q r = (token : ℕ) → r.answer ≡ Token token → waiting r.queue ≡ waiting q ++ (token ∷ [])
+abbrev pub Appends : Queue → Answered Registered → Type 0
+Appends q r = (token : ℕ) → r.answer ≡ Ok token → waiting r.queue ≡ waiting q ++ (token ∷ [])
 
 -- ---- pop
 -- R43: the token of a fresh ticket was the last of the waiting ones, and waits no more
-abbrev pub Drops : Queue → PopAnswer → Type 0
-Drops q r = (t : Ticket) (number : ℕ) → r.answer ≡ Work t number → q.selection ≡ Free → waiting q ≡ waiting r.queue ++ (t.token ∷ [])
+abbrev pub Drops : Queue → Answered Popped → Type 0
+Drops q r = (t : Ticket) (number : ℕ) → r.answer ≡ Ok (Some (t, number)) → q.selection ≡ None → waiting q ≡ waiting r.queue ++ (t.token ∷ [])
 
 -- R45, R46: next rises by 1 for a fresh ticket, and stays for a ready one
 abbrev pub TakesNext : Queue → Queue → Type 0
-TakesNext q p = (q.selection ≡ Free → p.next ≡ q.next + 1) × ((s : Ticket) → q.selection ≡ Of s → p.next ≡ q.next)
+TakesNext q p = (q.selection ≡ None → p.next ≡ q.next + 1) × ((s : Ticket) → q.selection ≡ Some s → p.next ≡ q.next)
 
 -- ---- complete of a ticket, by its outcome and kept number
 -- R50 to R52: not issued, the slot with the kept number, failed exactly if Failed, selected exactly then
 abbrev pub TakesBack : Queue → Ticket → ℕ → ℕ → Queue → Type 0
-TakesBack q t outcome kept p = (p.issued ≡ false) × (p.slots ≡ set q.slots t.token kept) × (p.count ≡ q.count) × (p.failed ≡ eqb outcome 1) × ((outcome ≡ 1 → p.selection ≡ Of t) × (outcome ≡ 0 → p.selection ≡ Free))
+TakesBack q t outcome kept p = (p.issued ≡ false) × (p.slots ≡ set q.slots t.token kept) × (p.count ≡ q.count) × (p.failed ≡ eqb outcome 1) × ((outcome ≡ 1 → p.selection ≡ Some t) × (outcome ≡ 0 → p.selection ≡ None))
 
 -- ---- retry that gives the ticket t
 -- R55: it is selected, neither mark stands, next rises by 1; slots, count and phase stay
 abbrev pub RenewsTo : Queue → Ticket → Queue → Type 0
-RenewsTo q t p = (p.selection ≡ Of t) × (p.failed ≡ false) × (p.issued ≡ false) × (p.next ≡ q.next + 1) × (p.slots ≡ q.slots) × (p.count ≡ q.count) × (p.phase ≡ q.phase)
+RenewsTo q t p = (p.selection ≡ Some t) × (p.failed ≡ false) × (p.issued ≡ false) × (p.next ≡ q.next + 1) × (p.slots ≡ q.slots) × (p.count ≡ q.count) × (p.phase ≡ q.phase)
 
 -- ---- admit, end and cancel
 -- all but the phase stays

@@ -1,14 +1,12 @@
 -- Runs: any calls with any inputs, one after the other, the attempts that they hand out, and the tokens that they give
-use Rattle.std.specs.Prelude.{ℕ, zero, suc, ◌+◌, ◌<◌, ◌≤◌, ◌≡◌, Bool, List, [], ◌∷◌, ◌++◌, length}
+use Rattle.std.specs.Prelude.{ℕ, zero, suc, ◌+◌, ◌<◌, ◌≤◌, ◌≡◌, Bool, List, [], ◌∷◌, ◌++◌, length, Some, None, Ok, Err}
 use Rattle.queue_record.specs.declared.record.Ticket.{Ticket}
 use Rattle.queue_record.specs.declared.record.Queue.{Queue}
 use Rattle.queue_births.specs.Births.{registered, landed}
 use Rattle.queue_steps.specs.Attempts.{popped, completed, retried}
-use Rattle.queue_births.specs.declared.births.Registered.{Registered}
-use Rattle.queue_births.specs.declared.births.Registered.TheVariants.{Token}
-use Rattle.queue_steps.specs.declared.attempts.Popped.{Popped}
-use Rattle.queue_steps.specs.declared.attempts.Popped.TheVariants.{Work, Nothing, Refused}
 use Rattle.queue_stages.specs.Stages.{admitted, ended, cancelled_by}
+use Rattle.queue_births.specs.Types.{Registered}
+use Rattle.queue_steps.specs.Types.{Popped}
 
 pub data Call : Type 0 where
   register : ℕ → Call
@@ -38,9 +36,9 @@ after_all q (c ∷ cs) = after_all (after q c) cs
 
 -- the attempt that an answer of pop hands out, if it does
 abbrev pub attempt_of : Popped → List ℕ
-attempt_of (Work t number) = t.attempt ∷ []
-attempt_of Nothing = []
-attempt_of (Refused n) = []
+attempt_of (Ok (Some (t, number))) = t.attempt ∷ []
+attempt_of (Ok None) = []
+attempt_of (Err n) = []
 
 abbrev pub handed_by : Queue → Call → List ℕ
 handed_by q (register number) = []
@@ -59,8 +57,8 @@ attempts q (c ∷ cs) = handed_by q c ++ attempts (after q c) cs
 
 -- the token that an answer of register or land gives, if it does
 abbrev pub token_of : Registered → List ℕ
-token_of (Token token) = token ∷ []
-token_of (Registered.Refused n given) = []
+token_of (Ok token) = token ∷ []
+token_of (Err (n, given)) = []
 
 abbrev pub tokens_born_by : Queue → Call → List ℕ
 tokens_born_by q (register number) = token_of (registered q number).answer

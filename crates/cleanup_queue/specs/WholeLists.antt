@@ -1,17 +1,18 @@
 -- A whole list registered: the separate calls that it stands for, when it is refused, and how many it takes
 use Rattle.std.specs.Prelude.{ℕ, suc, ◌+◌, ◌≡◌, List, [], ◌∷◌, ◌++◌, eqb, take, drop}
 use Rattle.choice.specs.Choice.{when◌then◌else◌}
+use Rattle.queue_record.specs.Refusals.{result_number}
 use Rattle.queue_record.specs.declared.record.Queue.{Queue}
 use Rattle.queue_births.specs.declared.sequences.RegisteredAll.{RegisteredAll}
-use Rattle.queue_births.specs.declared.sequences.RegisterAllAnswer.{RegisterAllAnswer}
 use Rattle.cleanup_queue.specs.Answers.{Said, says}
 use Rattle.cleanup_queue.specs.Orders.{Ground, register_order, broken_only}
 use Rattle.cleanup_queue.specs.Parts.{LeavesSelected}
 use Rattle.cleanup_queue.specs.Runs.{Call, register, after_all}
+use Rattle.queue_record.specs.declared.answered.Answered.{Answered}
 
 -- R138: its number, and how many were taken, whether it is refused or not
 abbrev pub registered_all_says : RegisteredAll → Said
-registered_all_says r = says r.refusal (r.taken ∷ [])
+registered_all_says r = says (result_number r.refusal) (r.taken ∷ [])
 
 -- a register for each
 abbrev pub registers_of : List ℕ → List Call
@@ -33,7 +34,7 @@ before_zero [] = 0
 before_zero (n ∷ ns) = when eqb n 0 then 0 else suc (before_zero ns)
 
 -- R38: the slots in use get the taken numbers behind them, in their order; the selected ticket, both marks, next and the phase stay
-abbrev pub PushesAll : Queue → List ℕ → RegisterAllAnswer → Type 0
+abbrev pub PushesAll : Queue → List ℕ → Answered RegisteredAll → Type 0
 PushesAll q ns r =
     (take r.queue.count r.queue.slots ≡ take q.count q.slots ++ take r.answer.taken ns) × (r.queue.count ≡ q.count + r.answer.taken)
     × LeavesSelected q r.queue × (r.queue.phase ≡ q.phase)

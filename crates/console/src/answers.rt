@@ -1,158 +1,99 @@
-// What a line answers: the number of refusal, the case and its values, from each call's own answer.
-use cleanup_groups::{Added, Closed, LenTold};
-use cleanup_log::Read;
-use cleanup_queue::refusal::BAD_TEXT;
-use cleanup_queue::{
-    Cancelled, Completed, DomainTold, Opened, Popped, Registered, RegisteredAll, Retried, Told,
-};
+// What a line answers, from each call's own answer: a refusal's number, a case and its values.
+use cleanup_queue::{Completed, Popped, Refusal, RegisteredAll, Retried, Ticket, Told};
 
 #[derive(Clone, Copy)]
-pub struct Said {
-    pub result: u64,
-    pub case: u64,
-    pub first: u64,
-    pub second: u64,
-    pub third: u64,
-    pub fourth: u64,
+pub enum Said {
+    // A case and its values.
+    Good(u64, [u64; 4]),
+    // A refusal, and what comes back with it.
+    Refused(Refusal, u64),
+    // A line that shows: what it shows is its answer.
+    Shown,
+    // The line can't be obeyed.
+    NoCall,
 }
 
-// A case with at most one value. A line that shows has no case: what it shows is its answer.
-pub fn good(case: u64, value: u64) -> Said {
-    Said {
-        result: 0,
-        case: case,
-        first: value,
-        second: 0,
-        third: 0,
-        fourth: 0,
-    }
+// A case with at most one value.
+fn good(case: u64, value: u64) -> Said {
+    Said::Good(case, [value, 0, 0, 0])
 }
 
 pub fn done() -> Said {
     good(1, 0)
 }
 
-// A refusal, and what comes back with it.
-pub fn refused(refusal: u64, value: u64) -> Said {
-    Said {
-        result: refusal,
-        case: 0,
-        first: value,
-        second: 0,
-        third: 0,
-        fourth: 0,
-    }
-}
-
-// No call answers 18, so that it tells a line that can't be obeyed.
-pub fn bad_line(line: u64) -> Said {
-    refused(BAD_TEXT, line)
+fn with_ticket(case: u64, ticket: Ticket, value: u64) -> Said {
+    Said::Good(case, [ticket.domain, ticket.token, ticket.attempt, value])
 }
 
 pub fn told(answer: Told) -> Said {
     match answer {
-        Told::No => good(1, 0),
-        Told::Yes => good(2, 0),
-        Told::Refused(refusal) => refused(refusal, 0),
+        Ok(false) => good(1, 0),
+        Ok(true) => good(2, 0),
+        Err(refusal) => Said::Refused(refusal, 0),
     }
 }
 
-pub fn born(answer: Registered) -> Said {
+// Of the openings, a cancel, a close or a get.
+pub fn passed(answer: Result<(), Refusal>) -> Said {
     match answer {
-        Registered::Token(token) => good(1, token),
-        Registered::Refused(refusal, given) => refused(refusal, given),
+        Ok(()) => done(),
+        Err(refusal) => Said::Refused(refusal, 0),
+    }
+}
+
+// A domain, an id or a count.
+pub fn counted(answer: Result<u64, Refusal>) -> Said {
+    match answer {
+        Ok(number) => good(1, number),
+        Err(refusal) => Said::Refused(refusal, 0),
+    }
+}
+
+// A birth or a reading: its number, or what comes back.
+pub fn numbered(answer: Result<u64, (Refusal, u64)>) -> Said {
+    match answer {
+        Ok(number) => good(1, number),
+        Err((refusal, given)) => Said::Refused(refusal, given),
     }
 }
 
 // A list: how many were taken, whether or not one was refused.
 pub fn all_born(answer: RegisteredAll) -> Said {
-    if answer.refusal == 0 {
-        return good(1, answer.taken);
+    match answer.refusal {
+        None => good(1, answer.taken),
+        Some(refusal) => Said::Refused(refusal, answer.taken),
     }
-    refused(answer.refusal, answer.taken)
 }
 
 pub fn popped(answer: Popped) -> Said {
     match answer {
-        Popped::Nothing => good(1, 0),
-        Popped::Work(ticket, undo) => Said {
-            result: 0,
-            case: 2,
-            first: ticket.domain,
-            second: ticket.token,
-            third: ticket.attempt,
-            fourth: undo,
-        },
-        Popped::Refused(refusal) => refused(refusal, 0),
+        Ok(None) => good(1, 0),
+        Ok(Some((ticket, undo))) => with_ticket(2, ticket, undo),
+        Err(refusal) => Said::Refused(refusal, 0),
     }
 }
 
 pub fn completed(answer: Completed) -> Said {
     match answer {
-        Completed::Settled => done(),
-        Completed::Refused(refusal, given) => refused(refusal, given),
+        Ok(()) => done(),
+        Err((refusal, given)) => Said::Refused(refusal, given),
     }
 }
 
 pub fn retried(answer: Retried) -> Said {
     match answer {
-        Retried::Again(ticket) => Said {
-            result: 0,
-            case: 1,
-            first: ticket.domain,
-            second: ticket.token,
-            third: ticket.attempt,
-            fourth: 0,
-        },
-        Retried::Refused(refusal) => refused(refusal, 0),
+        Ok(ticket) => with_ticket(1, ticket, 0),
+        Err(refusal) => Said::Refused(refusal, 0),
     }
 }
 
-pub fn cancelled(answer: Cancelled) -> Said {
-    match answer {
-        Cancelled::Done => done(),
-        Cancelled::Refused(refusal) => refused(refusal, 0),
-    }
-}
-
-pub fn opened(answer: Opened) -> Said {
-    match answer {
-        Opened::Open => done(),
-        Opened::Refused(refusal) => refused(refusal, 0),
-    }
-}
-
-pub fn domain(answer: DomainTold) -> Said {
-    match answer {
-        DomainTold::Is(number) => good(1, number),
-        DomainTold::Refused(refusal) => refused(refusal, 0),
-    }
-}
-
-pub fn read(answer: Read) -> Said {
-    match answer {
-        Read::Good(rows) => good(1, rows),
-        Read::Refused(refusal, place) => refused(refusal, place),
-    }
-}
-
-pub fn added(answer: Added) -> Said {
-    match answer {
-        Added::Id(id) => good(1, id),
-        Added::Refused(refusal) => refused(refusal, 0),
-    }
-}
-
-pub fn closed(answer: Closed) -> Said {
-    match answer {
-        Closed::Done => done(),
-        Closed::Refused(refusal) => refused(refusal, 0),
-    }
-}
-
-pub fn counted(answer: LenTold) -> Said {
-    match answer {
-        LenTold::Live(count) => good(1, count),
-        LenTold::Refused(refusal) => refused(refusal, 0),
+// The seven decimals of an answer; none where the line has shown. No call answers 18, so that it tells a line that can't be obeyed.
+pub fn columns(said: Said, line: u64, used: u64) -> Option<[u64; 7]> {
+    match said {
+        Said::Good(case, v) => Some([0, case, v[0], v[1], v[2], v[3], used]),
+        Said::Refused(refusal, value) => Some([refusal.into(), 0, value, 0, 0, 0, used]),
+        Said::Shown => None,
+        Said::NoCall => Some([Refusal::BadText.into(), 0, line, 0, 0, 0, used]),
     }
 }

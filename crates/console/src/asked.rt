@@ -5,14 +5,6 @@ use crate::script::Call;
 use cleanup_groups::Groups;
 use cleanup_queue::{Queue, Told};
 
-// A check's yes or no, as the questions say it.
-fn say(yes: bool) -> Told {
-    if yes {
-        return Told::Yes;
-    }
-    Told::No
-}
-
 pub fn of_queue(q: Queue, number: u64, target: &[u64]) -> Told {
     match number {
         20 => cleanup_queue::is_empty(q),
@@ -23,7 +15,7 @@ pub fn of_queue(q: Queue, number: u64, target: &[u64]) -> Told {
         25 => cleanup_queue::has_failed(q),
         26 => cleanup_queue::can_retry(q),
         27 => cleanup_queue::can_finish(q, target),
-        _ => say(cleanup_queue::well_formed(q)),
+        _ => Ok(cleanup_queue::well_formed(q)),
     }
 }
 
@@ -37,16 +29,15 @@ fn told_of_group(g: Groups, number: u64, id: u64, target: &[u64]) -> Told {
         85 => cleanup_groups::group_has_failed(g, id),
         86 => cleanup_groups::group_can_retry(g, id),
         87 => cleanup_groups::group_can_finish(g, id, target),
-        _ => say(cleanup_groups::well_grouped(g)),
+        _ => Ok(cleanup_groups::well_grouped(g)),
     }
 }
 
 pub fn of_group(g: Groups, call: Call, target: &[u64]) -> Said {
-    let number = call.number;
-    if number == 88 {
-        return answers::domain(cleanup_groups::group_domain(g, call.a));
+    match call.number {
+        88 => answers::counted(cleanup_groups::group_domain(g, call.a)),
+        number => answers::told(told_of_group(g, number, call.a, target)),
     }
-    answers::told(told_of_group(g, number, call.a, target))
 }
 
 fn told_of_all(g: Groups, number: u64, id: u64, target: &[u64]) -> Told {
@@ -65,12 +56,9 @@ fn told_of_all(g: Groups, number: u64, id: u64, target: &[u64]) -> Told {
 }
 
 pub fn of_all(g: Groups, call: Call, target: &[u64]) -> Said {
-    let number = call.number;
-    if 112 < number {
-        return answers::bad_line(0);
+    match call.number {
+        108 => answers::counted(cleanup_groups::len(g)),
+        number if number <= 112 => answers::told(told_of_all(g, number, call.a, target)),
+        _ => Said::NoCall,
     }
-    if number == 108 {
-        return answers::counted(cleanup_groups::len(g));
-    }
-    answers::told(told_of_all(g, number, call.a, target))
 }

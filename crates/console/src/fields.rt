@@ -1,5 +1,5 @@
 // One field of a queue set by its number.
-use cleanup_queue::{Kind, MOST_BINDINGS, MOST_TOKENS, Phase, Queue, Selection, Ticket};
+use cleanup_queue::{Kind, MOST_BINDINGS, MOST_TOKENS, Phase, Queue, Ticket};
 
 // Whether the field, the index and the value are in their ranges.
 pub fn fits(field: u64, index: u64, value: u64) -> bool {
@@ -18,17 +18,6 @@ fn set_kind(q: Queue, value: u64) -> Queue {
         _ => Kind::Iterator,
     };
     queue_record::set_kind(q, kind)
-}
-
-fn set_phase(q: Queue, value: u64) -> Queue {
-    let phase = match value {
-        0 => Phase::Idle,
-        1 => Phase::Pending,
-        2 => Phase::Ended,
-        3 => Phase::Stopping,
-        _ => Phase::Closed,
-    };
-    queue_record::move_to(q, phase)
 }
 
 fn set_number(q: Queue, field: u64, value: u64) -> Queue {
@@ -61,34 +50,29 @@ fn set_entry(q: Queue, field: u64, index: u64, value: u64) -> Queue {
 }
 
 // The selected ticket; where none is, one of zeros.
-pub fn ticket_in(selection: Selection) -> Ticket {
-    match selection {
-        Selection::Of(ticket) => ticket,
-        Selection::Free => Ticket {
-            domain: 0,
-            token: 0,
-            attempt: 0,
-        },
-    }
+pub fn ticket_in(selection: Option<Ticket>) -> Ticket {
+    selection.unwrap_or(Ticket {
+        domain: 0,
+        token: 0,
+        attempt: 0,
+    })
 }
 
 fn set_selected(q: Queue, value: u64) -> Queue {
     if value == 0 {
-        return queue_record::select(q, Selection::Free);
+        return queue_record::select(q, None);
     }
-    let was = q.selection;
-    queue_record::select(q, Selection::Of(ticket_in(was)))
+    queue_record::select(q, Some(ticket_in(q.selection)))
 }
 
 fn set_ticket(q: Queue, field: u64, value: u64) -> Queue {
-    let was = q.selection;
-    let mut ticket = ticket_in(was);
+    let mut ticket = ticket_in(q.selection);
     match field {
         6 => ticket.domain = value,
         7 => ticket.token = value,
         _ => ticket.attempt = value,
     }
-    queue_record::select(q, Selection::Of(ticket))
+    queue_record::select(q, Some(ticket))
 }
 
 // A field that fits.
@@ -98,7 +82,7 @@ pub fn set_field(q: Queue, field: u64, index: u64, value: u64) -> Queue {
         3 | 12 => set_entry(q, field, index, value),
         5 => set_selected(q, value),
         6 | 7 | 8 => set_ticket(q, field, value),
-        11 => set_phase(q, value),
+        11 => queue_record::move_to(q, Phase::from(value)),
         _ => set_number(q, field, value),
     }
 }

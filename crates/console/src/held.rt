@@ -1,7 +1,6 @@
 // What the console holds beside the log and the group record, and what a line leaves of it.
 ghost use Rattle.std.specs.Prelude.{◌≡◌, ◌≤◌, length, take};
 
-use crate::answers;
 use crate::answers::Said;
 use cleanup_groups::Groups;
 use cleanup_queue::Queue;
@@ -23,8 +22,7 @@ pub struct Held {
 }
 
 pub fn start() -> Held {
-    let opening = cleanup_queue::scope(0, 0);
-    let blank = opening.queue;
+    let blank = cleanup_queue::scope(0, 0).queue;
     Held {
         queue: blank,
         seen: blank,
@@ -39,8 +37,7 @@ pub fn start() -> Held {
 
 // The new record of base 0.
 pub fn first_groups() -> Groups {
-    let made = cleanup_groups::new(0);
-    made.groups
+    cleanup_groups::new(0).groups
 }
 
 #[derive(Clone, Copy)]
@@ -51,15 +48,11 @@ pub struct Turned {
 
 // What a call answered, and nothing changed.
 pub fn unchanged(h: Held, said: Said) -> Turned {
-    Turned {
-        said: said,
-        held: h,
-    }
+    Turned { said, held: h }
 }
 
 pub fn no_call(h: Held) -> Turned {
-    let said = answers::bad_line(0);
-    unchanged(h, said)
+    unchanged(h, Said::NoCall)
 }
 
 // What a call of the queue leaves.
@@ -72,19 +65,17 @@ pub struct Left {
 
 pub fn leaves(q: Queue, used: u64, said: Said) -> Left {
     Left {
-        said: said,
+        said,
         queue: q,
-        used: used,
+        used,
     }
 }
 
 pub fn settle(h: Held, left: Left) -> Turned {
-    let said = left.said;
-    let q = left.queue;
     let mut after = h;
-    after.queue = q;
+    after.queue = left.queue;
     after.used = left.used;
-    unchanged(after, said)
+    unchanged(after, left.said)
 }
 
 pub fn keep_seen(h: Held, q: Queue, said: Said) -> Turned {
@@ -98,8 +89,5 @@ pub fn first_of(asked: usize, words: &[u64]) -> usize
     ensures within { result ≤ length words.now }
     ensures prefix_len { result ≡ length (take result words.now) }
 {
-    if asked <= words.len() {
-        return asked;
-    }
-    words.len()
+    asked.min(words.len())
 }

@@ -11,17 +11,12 @@ pub struct Grouped {
 }
 
 pub fn leave(g: Groups, said: Said) -> Grouped {
-    Grouped {
-        said: said,
-        groups: g,
-    }
+    Grouped { said, groups: g }
 }
 
 fn make(base: u64) -> Grouped {
     let made = cleanup_groups::new(base);
-    let answer = made.answer;
-    let after = made.groups;
-    leave(after, answers::opened(answer))
+    leave(made.groups, answers::passed(made.answer))
 }
 
 fn add(g: Groups, call: Call, list: &[u64]) -> Grouped {
@@ -30,9 +25,7 @@ fn add(g: Groups, call: Call, list: &[u64]) -> Grouped {
     } else {
         cleanup_groups::add_iterator(g, list)
     };
-    let answer = added.answer;
-    let after = added.groups;
-    leave(after, answers::added(answer))
+    leave(added.groups, answers::counted(added.answer))
 }
 
 fn close(g: Groups, call: Call) -> Grouped {
@@ -41,17 +34,14 @@ fn close(g: Groups, call: Call) -> Grouped {
     } else {
         cleanup_groups::seal(g)
     };
-    let answer = closed.answer;
-    let after = closed.groups;
-    leave(after, answers::closed(answer))
+    leave(closed.groups, answers::passed(closed.answer))
 }
 
 pub fn come_or_go(g: Groups, call: Call, list: &[u64]) -> Grouped {
-    let number = call.number;
-    match number {
+    match call.number {
         60 => make(call.a),
         61 | 62 => add(g, call, list),
         63 | 64 => close(g, call),
-        _ => leave(g, answers::bad_line(0)),
+        _ => leave(g, Said::NoCall),
     }
 }

@@ -1,4 +1,5 @@
 // A field of the group record, of a place, or of a place's queue, set by its number.
+use crate::answers::Said;
 use crate::lives::{Grouped, leave};
 use crate::script::Call;
 use crate::{answers, fields};
@@ -34,13 +35,11 @@ fn set_record(g: Groups, field: u64, value: u64) -> Groups {
 fn set_place(g: Groups, call: Call) -> Grouped {
     let at = call.a as usize;
     if 16 <= at {
-        return leave(g, answers::bad_line(0));
+        return leave(g, Said::NoCall);
     }
     let mut place = g.places[at];
     if call.number == 133 {
-        let q = place.queue;
-        let after = fields::set_field(q, call.b, call.c, call.d);
-        place.queue = after;
+        place.queue = fields::set_field(place.queue, call.b, call.c, call.d);
     } else if call.b == 0 {
         place.id = call.c;
     } else {
@@ -53,7 +52,7 @@ fn set_place(g: Groups, call: Call) -> Grouped {
 
 pub fn set_groups(g: Groups, call: Call) -> Grouped {
     if !fits(call) {
-        return leave(g, answers::bad_line(0));
+        return leave(g, Said::NoCall);
     }
     if call.number == 131 {
         return leave(set_record(g, call.a, call.b), answers::done());

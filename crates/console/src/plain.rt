@@ -1,4 +1,5 @@
-// The plain calls and the lent ones: openings, steps, stages, questions of the held queue.
+// The plain calls and the lent ones: openings, steps, stages, questions of the held queue. Calls go by their numbers here and in the
+// files beside: these are the program's input, a line a call.
 use crate::answers::Said;
 use crate::held::{Left, leaves};
 use crate::script::Call;
@@ -11,9 +12,7 @@ fn open(used: u64, call: Call, list: &[u64]) -> Left {
     } else {
         cleanup_queue::iterator(call.a, call.b, list)
     };
-    let answer = opened.answer;
-    let after = opened.queue;
-    leaves(after, used, answers::opened(answer))
+    leaves(opened.queue, used, answers::passed(opened.answer))
 }
 
 fn birth(q: Queue, used: u64, call: Call) -> Left {
@@ -22,16 +21,12 @@ fn birth(q: Queue, used: u64, call: Call) -> Left {
     } else {
         cleanup_queue::land(q, call.a)
     };
-    let answer = born.answer;
-    let after = born.queue;
-    leaves(after, used, answers::born(answer))
+    leaves(born.queue, used, answers::numbered(born.answer))
 }
 
 fn births(q: Queue, used: u64, list: &[u64]) -> Left {
     let born = cleanup_queue::register_all(q, list);
-    let answer = born.answer;
-    let after = born.queue;
-    leaves(after, used, answers::all_born(answer))
+    leaves(born.queue, used, answers::all_born(born.answer))
 }
 
 // Pop by value, or on the queue lent.
@@ -41,15 +36,13 @@ fn pop(q: Queue, used: u64, call: Call) -> Left {
     } else {
         lent_steps::pop_via(q)
     };
-    let answer = popped.answer;
-    let after = popped.queue;
-    leaves(after, used, answers::popped(answer))
+    leaves(popped.queue, used, answers::popped(popped.answer))
 }
 
 // Complete by value, or on the queue lent; the ticket's domain is the held one.
 fn complete(q: Queue, used: u64, domain: u64, call: Call) -> Left {
     let ticket = Ticket {
-        domain: domain,
+        domain,
         token: call.a,
         attempt: call.b,
     };
@@ -58,41 +51,31 @@ fn complete(q: Queue, used: u64, domain: u64, call: Call) -> Left {
     } else {
         lent_steps::complete_via(q, ticket, call.c, call.d)
     };
-    let answer = completed.answer;
-    let after = completed.queue;
-    leaves(after, used, answers::completed(answer))
+    leaves(completed.queue, used, answers::completed(completed.answer))
 }
 
 fn retry(q: Queue, used: u64) -> Left {
     let retried = cleanup_queue::retry(q);
-    let answer = retried.answer;
-    let after = retried.queue;
-    leaves(after, used, answers::retried(answer))
+    leaves(retried.queue, used, answers::retried(retried.answer))
 }
 
 fn stage(q: Queue, used: u64, call: Call, list: &[u64]) -> Left {
-    let number = call.number;
-    let staged = match number {
+    let staged = match call.number {
         15 => cleanup_queue::admit(q, list),
         16 => cleanup_queue::admit_without(q),
         _ => cleanup_queue::end(q),
     };
-    let answer = staged.answer;
-    let after = staged.queue;
-    leaves(after, used, answers::told(answer))
+    leaves(staged.queue, used, answers::told(staged.answer))
 }
 
 fn cancel(q: Queue, used: u64) -> Left {
     let cancelled = cleanup_queue::cancel(q);
-    let answer = cancelled.answer;
-    let after = cancelled.queue;
-    leaves(after, used, answers::cancelled(answer))
+    leaves(cancelled.queue, used, answers::passed(cancelled.answer))
 }
 
 // The used count is the one that stays.
 pub fn step(q: Queue, used: u64, domain: u64, call: Call, list: &[u64]) -> Left {
-    let number = call.number;
-    match number {
+    match call.number {
         0 | 1 => open(used, call, list),
         10 | 11 => birth(q, used, call),
         12 | 42 => pop(q, used, call),
@@ -101,14 +84,13 @@ pub fn step(q: Queue, used: u64, domain: u64, call: Call, list: &[u64]) -> Left 
         15 | 16 | 17 => stage(q, used, call, list),
         18 => cancel(q, used),
         19 => births(q, used, list),
-        _ => leaves(q, used, answers::bad_line(0)),
+        _ => leaves(q, used, Said::NoCall),
     }
 }
 
 pub fn question(q: Queue, call: Call, list: &[u64]) -> Said {
-    let number = call.number;
-    if number == 28 {
-        return answers::domain(cleanup_queue::domain(q));
+    match call.number {
+        28 => answers::counted(cleanup_queue::domain(q)),
+        number => answers::told(asked::of_queue(q, number, list)),
     }
-    answers::told(asked::of_queue(q, number, list))
 }

@@ -1,7 +1,8 @@
 // The script on standard input, line by line: what has come is answered before more is waited for.
 ghost use Rattle.std.specs.Prelude.{◌≡◌, ◌≤◌, length, take};
 
-use csv_lines::{Line, line_at};
+use cleanup_queue::Refusal;
+use csv_lines::line_at;
 use std::io::Read;
 
 #[derive(Clone, Copy)]
@@ -25,35 +26,24 @@ fn refilled<R: Read>(from: &mut R, chunk: &mut [u8; 4096], input: Input) -> Inpu
         return input;
     }
     // A read that fails counts as the input's end.
-    let end = match from.read(chunk) {
-        Ok(count) => count,
-        Err(_) => 0,
-    };
-    Input { at: 0, end: end }
+    let end = from.read(chunk).unwrap_or(0);
+    Input { at: 0, end }
 }
 
-#[derive(Clone, Copy)]
-enum Next {
-    Byte(u8, Input),
-    NoByte,
-}
-
-fn next_byte<R: Read>(from: &mut R, chunk: &mut [u8; 4096], input: Input) -> Next {
+// None where the input has ended.
+fn next_byte<R: Read>(from: &mut R, chunk: &mut [u8; 4096], input: Input) -> Option<(u8, Input)> {
     let now = refilled(from, chunk, input);
-    let at = now.at;
-    if now.end <= at {
-        return Next::NoByte;
+    if now.end <= now.at {
+        return None;
     }
-    if 4096 <= at {
-        return Next::NoByte;
-    }
-    Next::Byte(
-        chunk[at],
+    let byte = *chunk.get(now.at)?;
+    Some((
+        byte,
         Input {
-            at: at + 1,
+            at: now.at + 1,
             end: now.end,
         },
-    )
+    ))
 }
 
 #[derive(Clone, Copy)]
@@ -68,45 +58,36 @@ fn gather<R: Read>(from: &mut R, chunk: &mut [u8; 4096], input: Input, line: &mu
     ensures prefix_len { result.count ≡ length (take result.count line.new) }
 {
     let mut now = input;
-    let mut count = 0;
-    while count < line.len() {
-        let next = next_byte(from, chunk, now);
-        let Next::Byte(byte, after) = next else {
-            break;
+    for count in 0..line.len() {
+        let Some((byte, after)) = next_byte(from, chunk, now) else {
+            return Gathered { count, input: now };
         };
         now = after;
         line[count] = byte;
-        count += 1;
         if byte == b'\n' {
-            break;
+            return Gathered {
+                count: count + 1,
+                input: now,
+            };
         }
     }
     Gathered {
-        count: count,
+        count: line.len(),
         input: now,
     }
 }
 
-#[derive(Clone, Copy)]
-pub enum Step {
-    Obey(Call, Input),
-    BadText,
-    NoMore,
-}
+// A call and what is left of the chunk, None where the input has ended, or the refusal of a line that is none.
+pub type Step = Result<Option<(Call, Input)>, Refusal>;
 
 pub fn next_line<R: Read>(from: &mut R, chunk: &mut [u8; 4096], input: Input) -> Step {
     let mut line = [0u8; 128];
     let got = gather(from, chunk, input, &mut line);
-    let count = got.count;
-    if count == 0 {
-        return Step::NoMore;
+    if got.count == 0 {
+        return Ok(None);
     }
-    let read = line_at(&line[..count], 0);
-    let Line::Held(row, _) = read else {
-        return Step::BadText;
-    };
-    let after = got.input;
-    Step::Obey(
+    let (row, _) = line_at(&line[..got.count], 0).ok_or(Refusal::BadText)?;
+    Ok(Some((
         Call {
             number: row.kind,
             a: row.token,
@@ -114,6 +95,6 @@ pub fn next_line<R: Read>(from: &mut R, chunk: &mut [u8; 4096], input: Input) ->
             c: row.outcome,
             d: row.number,
         },
-        after,
-    )
+        got.input,
+    )))
 }

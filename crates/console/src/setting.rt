@@ -7,8 +7,7 @@ use crate::{answers, fields};
 // The held domain and number, the empty list, how many words are lent, or the used count.
 fn set_number(h: Held, call: Call) -> Turned {
     let mut after = h;
-    let number = call.number;
-    match number {
+    match call.number {
         90 => {
             after.domain = call.a;
             after.kept = call.b;
@@ -35,10 +34,8 @@ fn set_queue(h: Held, call: Call) -> Turned {
     if !fields::fits(call.a, call.b, call.c) {
         return no_call(h);
     }
-    let q = h.queue;
-    let changed = fields::set_field(q, call.a, call.b, call.c);
     let mut after = h;
-    after.queue = changed;
+    after.queue = fields::set_field(h.queue, call.a, call.b, call.c);
     unchanged(after, answers::done())
 }
 
@@ -51,8 +48,7 @@ fn set_word(h: Held, log: &mut [u64], at: usize, value: u64) -> Turned {
 }
 
 pub fn set_held(h: Held, call: Call, log: &mut [u64]) -> Turned {
-    let number = call.number;
-    match number {
+    match call.number {
         90 | 120 | 136 => set_number(h, call),
         121 => longer_list(h, call.a),
         130 => set_queue(h, call),

@@ -4,7 +4,7 @@ use crate::held::{Held, Turned, first_of, keep_seen, settle, unchanged};
 use crate::lives::Grouped;
 use crate::script::Call;
 use crate::{answers, asked, grouped, lives, out, places, plain, recorded, setting, showing};
-use cleanup_groups::{Got, Groups};
+use cleanup_groups::Groups;
 use std::io::Write;
 
 #[derive(Clone, Copy)]
@@ -44,8 +44,7 @@ fn on_log(h: Held, call: Call, list: &[u64], log: &mut [u64]) -> Turned {
     if call.number == 50 {
         return recorded::read(h, call, list, &log[..lent]);
     }
-    let q = h.queue;
-    let left = recorded::step(q, h.used, h.domain, call, list, &mut log[..lent]);
+    let left = recorded::step(h.queue, h.used, h.domain, call, list, &mut log[..lent]);
     settle(h, left)
 }
 
@@ -53,11 +52,9 @@ pub fn on_held(h: Held, call: Call, log: &mut [u64]) -> Turned {
     let all = h.list;
     let count = first_of(h.listed, &all);
     let list = &all[..count];
-    let q = h.queue;
-    let ten = call.number / 10;
-    match ten {
-        0 | 1 | 4 => settle(h, plain::step(q, h.used, h.domain, call, list)),
-        2 => unchanged(h, plain::question(q, call, list)),
+    match call.number / 10 {
+        0 | 1 | 4 => settle(h, plain::step(h.queue, h.used, h.domain, call, list)),
+        2 => unchanged(h, plain::question(h.queue, call, list)),
         3 | 5 => on_log(h, call, list, log),
         _ => setting::set_held(h, call, log),
     }
@@ -70,8 +67,7 @@ pub fn on_groups(g: Groups, call: Call, h: Held) -> Grouped {
     let all = h.list;
     let count = first_of(h.listed, &all);
     let list = &all[..count];
-    let ten = call.number / 10;
-    match ten {
+    match call.number / 10 {
         6 => lives::come_or_go(g, call, list),
         7 => grouped::step(g, call, list, h.domain, h.kept),
         8 => lives::leave(g, asked::of_group(g, call, list)),
@@ -83,11 +79,10 @@ pub fn on_groups(g: Groups, call: Call, h: Held) -> Grouped {
 // A refused get leaves what was seen.
 pub fn on_seen(h: Held, g: Groups, id: u64) -> Turned {
     let found = cleanup_groups::get(g, id);
-    let answer = found.answer;
-    let q = found.queue;
-    match answer {
-        Got::Group => keep_seen(h, q, answers::done()),
-        Got::Refused(refusal) => unchanged(h, answers::refused(refusal, 0)),
+    let said = answers::passed(found.answer);
+    match found.answer {
+        Ok(()) => keep_seen(h, found.queue, said),
+        Err(_) => unchanged(h, said),
     }
 }
 
@@ -101,9 +96,9 @@ pub fn show<W: Write>(
 ) -> Said {
     if number == 143 {
         showing::show_groups(output, page, out::fresh(), g);
-        return answers::good(0, 0);
+        return Said::Shown;
     }
     let lent = first_of(h.lent, log);
     showing::show_held(output, page, out::fresh(), h, number, &log[..lent]);
-    answers::good(0, 0)
+    Said::Shown
 }

@@ -1,2 +1,3 @@
+pub mod Types
 pub mod Form
 pub mod Reading

@@ -4,26 +4,19 @@ use mathlib.Core.Path.{◌≡◌, refl, sym, ap, ◌∙◌}
 use mathlib.Core.Logic.{◌↔◌}
 use mathlib.Core.Bool.{Bool, true, false, not, ◌&&◌, ◌||◌}
 use mathlib.Core.List.{List, [], ◌∷◌}
-use native.Mathlib.Omega.{arith}
 use borrow.Author.Tests.{eqb-false, ne_eqb, le-ltb, not-true, not-false}
 use lib.Dec.{eqb, ltb}
 use lib.ListN.{replicate}
 use Rattle.stage.specs.Phases.{is_pending}
 use Rattle.choice.proofs.Ways.{if_by, hit, miss, pass, stop, either, other, and_left, and_right, clash}
-use Rattle.queue_record.specs.Refusals.{done, no_group}
+use Rattle.queue_record.specs.declared.refusal.Refusal.{Refusal}
+use Rattle.queue_record.specs.Refusals.{no_group}
+use Rattle.queue_record.proofs.Refused.{err_ok, ok_err}
 use Rattle.queue_record.specs.Openings.{blank, scope_of}
 use Rattle.queue_record.specs.declared.record.Queue.{Queue}
 use Rattle.queue_record.specs.declared.record.Ticket.{Ticket}
-use Rattle.queue_record.specs.declared.openings.Opened.{Opened}
-use Rattle.queue_births.specs.declared.births.Registered.{Registered}
 use Rattle.queue_steps.specs.Attempts.{retried}
-use Rattle.queue_steps.specs.declared.attempts.Popped.{Popped}
-use Rattle.queue_steps.specs.declared.attempts.Completed.{Completed}
-use Rattle.queue_steps.specs.declared.attempts.Retried.{Retried}
-use Rattle.queue_stages.specs.declared.stages.Cancelled.{Cancelled}
 use Rattle.queue_questions.specs.Questions.{is_empty_told, is_issued_told, is_pending_told, is_settled_told, is_cancelled_told, has_failed_told, can_retry_told, can_finish_told, domain_told}
-use Rattle.queue_questions.specs.declared.questions.Told.{Told}
-use Rattle.queue_questions.specs.declared.questions.Told.TheVariants.{Yes}
 use Rattle.cleanup_queue.specs.Answers.{Said, opened_says, registered_says, popped_says, completed_says, retried_says, told_says, cancelled_says, domain_says}
 use Rattle.cleanup_queue.specs.Orders.{first_due, RefusedAs, broken_only, register_order, land_order, pop_order, complete_order, retry_order}
 use Rattle.cleanup_queue.proofs.Numbers.{questions_number}
@@ -32,30 +25,16 @@ use Rattle.group_record.specs.declared.record.Place.{Place}
 use Rattle.group_record.specs.declared.record.Groups.{Groups}
 use Rattle.group_asking.specs.Questions.{is_yes, stuck, finishes}
 use Rattle.group_asking.specs.Scan.{some_yes}
-use Rattle.group_asking.specs.declared.questions.Question.TheVariants.{Holds, Live, Pending, Issued, Failed, Unfinished, Undrained}
+use Rattle.group_asking.specs.Question.{HoldsId, Live, Pending, Issued, Failed, Unfinished, Undrained}
 use Rattle.group_check.specs.WellFormed.{last_base, well_grouped}
 use Rattle.group_check.specs.Ids.{spot_of, got_at, got}
-use Rattle.group_check.specs.declared.ids.Spot.{Spot}
-use Rattle.group_check.specs.declared.ids.Got.{Got}
-use Rattle.group_check.specs.declared.ids.GetAnswer.{GetAnswer}
 use Rattle.group_check.proofs.Spots.{spot_means}
 use Rattle.group_questions.specs.ById.{told_by, domain_by, accepts_in}
 use Rattle.group_survey.specs.Whole.{retries_all, room_for, can_retry_all_of, can_seal_of}
 use Rattle.group_openings.specs.Openings.{new_of}
-use Rattle.group_openings.specs.declared.openings.Added.{Added}
-use Rattle.group_openings.specs.declared.openings.NewAnswer.{NewAnswer}
 use Rattle.group_openings.proofs.Room.{unsealed_means}
 use Rattle.group_endings.specs.Endings.{removed, sealed_in}
-use Rattle.group_endings.specs.declared.endings.Closed.{Closed}
-use Rattle.group_endings.specs.declared.endings.CloseAnswer.{CloseAnswer}
-use Rattle.group_steps.specs.declared.births.GroupRegisterAnswer.{GroupRegisterAnswer}
-use Rattle.group_steps.specs.declared.attempts.GroupPopAnswer.{GroupPopAnswer}
-use Rattle.group_steps.specs.declared.attempts.GroupCompleteAnswer.{GroupCompleteAnswer}
-use Rattle.group_steps.specs.declared.attempts.GroupRetryAnswer.{GroupRetryAnswer}
-use Rattle.group_stages.specs.declared.stages.GroupStageAnswer.{GroupStageAnswer}
-use Rattle.group_stages.specs.declared.stages.GroupCancelAnswer.{GroupCancelAnswer}
 use Rattle.group_rounds.specs.Rounds.{retried_all}
-use Rattle.group_rounds.specs.declared.rounds.RetryAllAnswer.{RetryAllAnswer}
 use Rattle.cleanup_groups.specs.Answers.{added_says, closed_says, got_says}
 use Rattle.cleanup_groups.specs.Orders.{step_order}
 use Rattle.cleanup_groups.specs.Promises.{LiveAt, id_at, IsLive, DrainedQueue, Frame, Sound}
@@ -86,6 +65,17 @@ use Rattle.demands.specs.CallTables.{said_by, left_by, told_to, QueueQuestion, a
 use Rattle.demands.specs.CallTables.{said_of_groups, groups_order, given_to_groups, GroupsNotRefusedWith0, GroupsRefusedAs, by_id, is_for, told_by_id, RecordQuestion, record_told, Finishes, YesMeans}
 use Rattle.demands.specs.CallTables.{asks_contains, asks_none_live, asks_some_pending, asks_some_issued, asks_some_failed, asks_retry_all, asks_all_finish, asks_seal, asks_room}
 use Rattle.demands.specs.CallTables.{GroupQuestion, asks_group, asks_accepts, asks_queue, asks_record, asks_len, groups_told, groups_asked_order, SixteenPlaces, LiveGroup}
+use Rattle.std.specs.Prelude.{Some, None, Ok, Err}
+use Rattle.queue_record.specs.declared.answered.Answered.{Answered}
+use Rattle.group_record.specs.declared.answered.GroupsAnswered.{GroupsAnswered}
+use Rattle.group_check.specs.Types.{Got}
+use Rattle.group_endings.specs.Types.{Closed}
+use Rattle.group_openings.specs.Types.{Added}
+use Rattle.queue_births.specs.Types.{Registered}
+use Rattle.queue_questions.specs.Types.{Told}
+use Rattle.queue_record.specs.Types.{Opened}
+use Rattle.queue_stages.specs.Types.{Cancelled}
+use Rattle.queue_steps.specs.Types.{Completed, Popped, Retried}
 
 -- ---- one number
 pub one_number_groups_lem : (g : Groups) (c : GroupCall) → (said_of_groups g c).number ≡ first_due (groups_order g c)
@@ -116,7 +106,7 @@ by_id_number g id (asks_finish target) = told_number g id (λ q. can_finish_told
 by_id_number g id asks_domain = domain_number g id
 
 record_number : (g : Groups) (a : RecordQuestion) → (told_says (record_told g a)).number ≡ first_due (groups_asked_order g (asks_record a))
-record_number g (asks_contains id) = whole_number g (some_yes g (Holds id) [])
+record_number g (asks_contains id) = whole_number g (some_yes g (HoldsId id) [])
 record_number g asks_none_live = whole_number g (not (some_yes g Live []))
 record_number g asks_some_pending = whole_number g (some_yes g Pending [])
 record_number g asks_some_issued = whole_number g (some_yes g Issued [])
@@ -135,59 +125,59 @@ one_number_groups_asked_lem g asks_len = len_number g
 
 -- ---- a refusal is not numbered 0
 pub groups_not_refused_with_0 : (g : Groups) (c : GroupCall) → GroupsNotRefusedWith0 g c
-groups_not_refused_with_0 g GroupCall.add_scope = λ e. scope_numbered g done e refl
-groups_not_refused_with_0 g (GroupCall.add_iterator bindings) = λ e. iterator_numbered g bindings done e refl
-groups_not_refused_with_0 g (GroupCall.remove id) = λ e. close_numbered g id done e refl
-groups_not_refused_with_0 g GroupCall.seal = λ e. seal_numbered g done e refl
-groups_not_refused_with_0 g (GroupCall.register id n) = λ given e. register_numbered g id n given done e refl
-groups_not_refused_with_0 g (GroupCall.land id n) = λ given e. land_numbered g id n given done e refl
-groups_not_refused_with_0 g (GroupCall.pop id) = λ e. pop_numbered g id done e refl
-groups_not_refused_with_0 g (GroupCall.complete id t o k) = λ given e. complete_numbered g id t o k given done e refl
-groups_not_refused_with_0 g (GroupCall.retry id) = λ e. retry_numbered g id done e refl
-groups_not_refused_with_0 g (GroupCall.admit id target) = λ e. admit_numbered g id target done e refl
-groups_not_refused_with_0 g (GroupCall.admit_without id) = λ e. admit_without_numbered g id done e refl
-groups_not_refused_with_0 g (GroupCall.end id) = λ e. end_numbered g id done e refl
-groups_not_refused_with_0 g (GroupCall.cancel id) = λ e. cancel_numbered g id done e refl
-groups_not_refused_with_0 g GroupCall.retry_all = λ e. retry_all_numbered g done e refl
+groups_not_refused_with_0 g GroupCall.add_scope = scope_numbered g
+groups_not_refused_with_0 g (GroupCall.add_iterator bindings) = iterator_numbered g bindings
+groups_not_refused_with_0 g (GroupCall.remove id) = close_numbered g id
+groups_not_refused_with_0 g GroupCall.seal = seal_numbered g
+groups_not_refused_with_0 g (GroupCall.register id n) = λ refusal given. register_numbered g id n given refusal
+groups_not_refused_with_0 g (GroupCall.land id n) = λ refusal given. land_numbered g id n given refusal
+groups_not_refused_with_0 g (GroupCall.pop id) = pop_numbered g id
+groups_not_refused_with_0 g (GroupCall.complete id t o k) = λ refusal given. complete_numbered g id t o k given refusal
+groups_not_refused_with_0 g (GroupCall.retry id) = retry_numbered g id
+groups_not_refused_with_0 g (GroupCall.admit id target) = admit_numbered g id target
+groups_not_refused_with_0 g (GroupCall.admit_without id) = admit_without_numbered g id
+groups_not_refused_with_0 g (GroupCall.end id) = end_numbered g id
+groups_not_refused_with_0 g (GroupCall.cancel id) = cancel_numbered g id
+groups_not_refused_with_0 g GroupCall.retry_all = retry_all_numbered g
 
 -- ---- a refusal by its number: what it leaves and gives back
 module _ (g h : Groups) where
-  born_refused : (n : ℕ) (a : Registered) → ((r m : ℕ) → a ≡ Registered.Refused r m → (m ≡ n) × (h ≡ g)) → GroupsRefusedAs g (n ∷ []) (registered_says a) h
-  born_refused n (Registered.Token t) f z = absurd (z refl)
-  born_refused n (Registered.Refused r m) f z = let w = f r m refl in (ap (λ (k : ℕ). k ∷ []) w.0, w.1)
+  born_refused : (n : ℕ) (a : Registered) → ((r : Refusal) (m : ℕ) → a ≡ Err (r, m) → (m ≡ n) × (h ≡ g)) → GroupsRefusedAs g (n ∷ []) (registered_says a) h
+  born_refused n (Ok t) f z = absurd (z refl)
+  born_refused n (Err (r, m)) f z = let w = f r m refl in (ap (λ (k : ℕ). k ∷ []) w.0, w.1)
 
-  settle_refused : (n : ℕ) (a : Completed) → ((r m : ℕ) → a ≡ Completed.Refused r m → (m ≡ n) × (h ≡ g)) → GroupsRefusedAs g (n ∷ []) (completed_says a) h
-  settle_refused n Completed.Settled f z = absurd (z refl)
-  settle_refused n (Completed.Refused r m) f z = let w = f r m refl in (ap (λ (k : ℕ). k ∷ []) w.0, w.1)
+  settle_refused : (n : ℕ) (a : Completed) → ((r : Refusal) (m : ℕ) → a ≡ Err (r, m) → (m ≡ n) × (h ≡ g)) → GroupsRefusedAs g (n ∷ []) (completed_says a) h
+  settle_refused n (Ok tt) f z = absurd (z refl)
+  settle_refused n (Err (r, m)) f z = let w = f r m refl in (ap (λ (k : ℕ). k ∷ []) w.0, w.1)
 
-  work_refused : (a : Popped) → ((r : ℕ) → a ≡ Popped.Refused r → h ≡ g) → GroupsRefusedAs g [] (popped_says a) h
-  work_refused (Popped.Work t n) f z = absurd (z refl)
-  work_refused Popped.Nothing f z = absurd (z refl)
-  work_refused (Popped.Refused r) f z = (refl, f r refl)
+  work_refused : (a : Popped) → ((r : Refusal) → a ≡ Err r → h ≡ g) → GroupsRefusedAs g [] (popped_says a) h
+  work_refused (Ok (Some (t, n))) f z = absurd (z refl)
+  work_refused (Ok None) f z = absurd (z refl)
+  work_refused (Err r) f z = (refl, f r refl)
 
-  again_refused : (a : Retried) → ((r : ℕ) → a ≡ Retried.Refused r → h ≡ g) → GroupsRefusedAs g [] (retried_says a) h
-  again_refused (Retried.Again t) f z = absurd (z refl)
-  again_refused (Retried.Refused r) f z = (refl, f r refl)
+  again_refused : (a : Retried) → ((r : Refusal) → a ≡ Err r → h ≡ g) → GroupsRefusedAs g [] (retried_says a) h
+  again_refused (Ok t) f z = absurd (z refl)
+  again_refused (Err r) f z = (refl, f r refl)
 
-  told_refused : (a : Told) → ((r : ℕ) → a ≡ Told.Refused r → h ≡ g) → GroupsRefusedAs g [] (told_says a) h
-  told_refused Told.Yes f z = absurd (z refl)
-  told_refused Told.No f z = absurd (z refl)
-  told_refused (Told.Refused r) f z = (refl, f r refl)
+  told_refused : (a : Told) → ((r : Refusal) → a ≡ Err r → h ≡ g) → GroupsRefusedAs g [] (told_says a) h
+  told_refused (Ok true) f z = absurd (z refl)
+  told_refused (Ok false) f z = absurd (z refl)
+  told_refused (Err r) f z = (refl, f r refl)
 
-  stop_refused : (a : Cancelled) → ((r : ℕ) → a ≡ Cancelled.Refused r → h ≡ g) → GroupsRefusedAs g [] (cancelled_says a) h
-  stop_refused Cancelled.Done f z = absurd (z refl)
-  stop_refused (Cancelled.Refused r) f z = (refl, f r refl)
+  stop_refused : (a : Cancelled) → ((r : Refusal) → a ≡ Err r → h ≡ g) → GroupsRefusedAs g [] (cancelled_says a) h
+  stop_refused (Ok tt) f z = absurd (z refl)
+  stop_refused (Err r) f z = (refl, f r refl)
 
-  shut_refused : (a : Closed) → ((r : ℕ) → a ≡ Closed.Refused r → h ≡ g) → GroupsRefusedAs g [] (closed_says a) h
-  shut_refused Closed.Done f z = absurd (z refl)
-  shut_refused (Closed.Refused r) f z = (refl, f r refl)
+  shut_refused : (a : Closed) → ((r : Refusal) → a ≡ Err r → h ≡ g) → GroupsRefusedAs g [] (closed_says a) h
+  shut_refused (Ok tt) f z = absurd (z refl)
+  shut_refused (Err r) f z = (refl, f r refl)
 
-  add_refused : (a : Added) → ((r : ℕ) → a ≡ Added.Refused r → h ≡ g) → GroupsRefusedAs g [] (added_says a) h
-  add_refused (Added.Id n) f z = absurd (z refl)
-  add_refused (Added.Refused r) f z = (refl, f r refl)
+  add_refused : (a : Added) → ((r : Refusal) → a ≡ Err r → h ≡ g) → GroupsRefusedAs g [] (added_says a) h
+  add_refused (Ok n) f z = absurd (z refl)
+  add_refused (Err r) f z = (refl, f r refl)
 
-round_refused : (g : Groups) (r : ℕ) → (retried_all g).answer ≡ Told.Refused r → (retried_all g).groups ≡ g
-round_refused g r h = round_no g (λ y. let e : Yes ≡ Told.Refused r = sym y ∙ h in let z : ◌≡◌ {A = ℕ} 0 1 = cc in omega arith)
+round_refused : (g : Groups) (r : Refusal) → (retried_all g).answer ≡ Err r → (retried_all g).groups ≡ g
+round_refused g r h = round_no g (λ y. ok_err (sym y ∙ h))
 
 pub groups_unchanged_lem : (g : Groups) (c : GroupCall) → GroupsRefusedAs g (given_to_groups c) (said_of_groups g c) (groups_after g c)
 groups_unchanged_lem g GroupCall.add_scope = add_refused g _ _ (scope_refused g)
@@ -207,13 +197,13 @@ groups_unchanged_lem g GroupCall.retry_all = told_refused g _ _ (round_refused g
 
 pub empty_new_lem : (base : ℕ) → GroupsRefusedAs (empty_of 0) [] (opened_says (new_of base).answer) (new_of base).groups
 unfolding new_of
-empty_new_lem base = if_by (λ (r : NewAnswer). GroupsRefusedAs (empty_of 0) [] (opened_says r.answer) r.groups) (ltb last_base base) _ _ (λ _ _. (refl, refl)) (λ _ z. absurd (z refl))
+empty_new_lem base = if_by (λ (r : GroupsAnswered Opened). GroupsRefusedAs (empty_of 0) [] (opened_says r.answer) r.groups) (ltb last_base base) _ _ (λ _ _. (refl, refl)) (λ _ z. absurd (z refl))
 
 pub blank_get_lem : (g : Groups) (id : ℕ) → RefusedAs blank [] (got_says (got g id).answer) (got g id).queue
 unfolding got
-blank_get_lem g id = by_spot (λ (r : GetAnswer). RefusedAs blank [] (got_says r.answer) r.queue) (got_at g) (spot_of g id) (λ _ _ _. (refl, refl)) (λ _ _ z. absurd (z refl))
+blank_get_lem g id = by_spot (λ (r : Answered Got). RefusedAs blank [] (got_says r.answer) r.queue) (got_at g) (spot_of g id) (λ _ _ _. (refl, refl)) (λ _ _ z. absurd (z refl))
 
-pub new_has_root_lem : (base : ℕ) → base ≤ last_base → new_of base ≡ record { answer = Opened.Open; groups = with_opened (empty_of base) 0 (scope_of base 0) }
+pub new_has_root_lem : (base : ℕ) → base ≤ last_base → new_of base ≡ record { answer = Ok tt; groups = with_opened (empty_of base) 0 (scope_of base 0) }
 unfolding new_of
 new_has_root_lem base h = miss _ (le-ltb last_base base h)
 
@@ -228,28 +218,28 @@ module _ (g : Groups) (i : ℕ) (p : LiveGroup g i) where
 
   pub group_as_queue_lem : (c : BenchCall) → AsQueue c
   group_as_queue_lem (BenchCall.register n) =
-      both (λ (r : GroupRegisterAnswer). registered_says r.answer) (λ r. r.groups) (register_as g (id_at g i) i p.places p.sound p.inside p.live refl n)
+      both (λ (r : GroupsAnswered Registered). registered_says r.answer) (λ r. r.groups) (register_as g (id_at g i) i p.places p.sound p.inside p.live refl n)
   group_as_queue_lem (BenchCall.land n) =
-      both (λ (r : GroupRegisterAnswer). registered_says r.answer) (λ r. r.groups) (land_as g (id_at g i) i p.places p.sound p.inside p.live refl n)
+      both (λ (r : GroupsAnswered Registered). registered_says r.answer) (λ r. r.groups) (land_as g (id_at g i) i p.places p.sound p.inside p.live refl n)
   group_as_queue_lem BenchCall.pop =
-      both (λ (r : GroupPopAnswer). popped_says r.answer) (λ r. r.groups) (pop_as g (id_at g i) i p.places p.sound p.inside p.live refl)
+      both (λ (r : GroupsAnswered Popped). popped_says r.answer) (λ r. r.groups) (pop_as g (id_at g i) i p.places p.sound p.inside p.live refl)
   group_as_queue_lem (BenchCall.complete t o k) =
-      both (λ (r : GroupCompleteAnswer). completed_says r.answer) (λ r. r.groups) (complete_as g (id_at g i) i p.places p.sound p.inside p.live refl t o k)
+      both (λ (r : GroupsAnswered Completed). completed_says r.answer) (λ r. r.groups) (complete_as g (id_at g i) i p.places p.sound p.inside p.live refl t o k)
   group_as_queue_lem BenchCall.retry =
-      both (λ (r : GroupRetryAnswer). retried_says r.answer) (λ r. r.groups) (retry_as g (id_at g i) i p.places p.sound p.inside p.live refl)
+      both (λ (r : GroupsAnswered Retried). retried_says r.answer) (λ r. r.groups) (retry_as g (id_at g i) i p.places p.sound p.inside p.live refl)
   group_as_queue_lem (BenchCall.admit target) =
-      both (λ (r : GroupStageAnswer). told_says r.answer) (λ r. r.groups) (admit_as g (id_at g i) i p.places p.sound p.inside p.live refl target)
+      both (λ (r : GroupsAnswered Told). told_says r.answer) (λ r. r.groups) (admit_as g (id_at g i) i p.places p.sound p.inside p.live refl target)
   group_as_queue_lem BenchCall.admit_without =
-      both (λ (r : GroupStageAnswer). told_says r.answer) (λ r. r.groups) (admit_without_as g (id_at g i) i p.places p.sound p.inside p.live refl)
+      both (λ (r : GroupsAnswered Told). told_says r.answer) (λ r. r.groups) (admit_without_as g (id_at g i) i p.places p.sound p.inside p.live refl)
   group_as_queue_lem BenchCall.end =
-      both (λ (r : GroupStageAnswer). told_says r.answer) (λ r. r.groups) (end_as g (id_at g i) i p.places p.sound p.inside p.live refl)
+      both (λ (r : GroupsAnswered Told). told_says r.answer) (λ r. r.groups) (end_as g (id_at g i) i p.places p.sound p.inside p.live refl)
   group_as_queue_lem BenchCall.cancel =
-      both (λ (r : GroupCancelAnswer). cancelled_says r.answer) (λ r. r.groups) (cancel_as g (id_at g i) i p.places p.sound p.inside p.live refl)
+      both (λ (r : GroupsAnswered Cancelled). cancelled_says r.answer) (λ r. r.groups) (cancel_as g (id_at g i) i p.places p.sound p.inside p.live refl)
 
   asked_as : (tells : Queue → Told) → told_says (told_by (got g (id_at g i)).answer (tells (got g (id_at g i)).queue)) ≡ told_says (tells (queue_at g i))
   asked_as tells = ap told_says (told_as g (id_at g i) i p.places p.sound p.inside p.live refl tells)
 
-  pub get_gives_lem : got g (id_at g i) ≡ record { answer = Got.Group; queue = queue_at g i }
+  pub get_gives_lem : got g (id_at g i) ≡ record { answer = Ok tt; queue = queue_at g i }
   get_gives_lem = get_as g (id_at g i) i p.places p.sound p.inside p.live refl
 
   pub asked_as_queue : (a : QueueQuestion) → told_by_id g (id_at g i) a ≡ told_to (queue_at g i) a
@@ -261,15 +251,15 @@ module _ (g : Groups) (i : ℕ) (p : LiveGroup g i) where
   asked_as_queue asks_failed = asked_as has_failed_told
   asked_as_queue asks_retry = asked_as can_retry_told
   asked_as_queue (asks_finish target) = asked_as (λ q. can_finish_told q target)
-  asked_as_queue asks_domain = ap (λ (r : GetAnswer). domain_says (domain_by r.answer (domain_told r.queue))) get_gives_lem
+  asked_as_queue asks_domain = ap (λ (r : Answered Got). domain_says (domain_by r.answer (domain_told r.queue))) get_gives_lem
 
 -- ---- an id that is not live
 module _ (g : Groups) (id : ℕ) (l : SixteenPlaces g) (w : well_grouped g ≡ true) (n : IsLive g id → ⊥) where
-  unheld : some_yes g (Holds id) [] ≡ false
-  unheld = go (some_yes g (Holds id) []) refl
+  unheld : some_yes g (HoldsId id) [] ≡ false
+  unheld = go (some_yes g (HoldsId id) []) refl
     where
-      go : (b : Bool) → some_yes g (Holds id) [] ≡ b → some_yes g (Holds id) [] ≡ false
-      go true e = absurd (n (contains_means g l id (yes_told g (some_yes g (Holds id) []) w e)))
+      go : (b : Bool) → some_yes g (HoldsId id) [] ≡ b → some_yes g (HoldsId id) [] ≡ false
+      go true e = absurd (n (contains_means g l id (yes_told g (some_yes g (HoldsId id) []) w e)))
       go false e = e
 
   dead_step : (c : BenchCall) → (said_of_groups g (by_id id c)).number ≡ no_group
@@ -315,40 +305,40 @@ module _ (g : Groups) (l : SixteenPlaces g) where
   other_groups_stay_lem GroupCall.retry_all j a e = clash {b = true} refl e
 
   -- ---- closing
-  pub closes_exactly_lem : (id : ℕ) → ((removed g id).answer ≡ Closed.Done) ↔ ((i : ℕ) × LiveGroup g i × (id_at g i ≡ id) × DrainedQueue (queue_at g i))
+  pub closes_exactly_lem : (id : ℕ) → ((removed g id).answer ≡ Ok tt) ↔ ((i : ℕ) × LiveGroup g i × (id_at g i ≡ id) × DrainedQueue (queue_at g i))
   closes_exactly_lem id = (closed_was, drained_may)
     where
-      closed_was : (removed g id).answer ≡ Closed.Done → (i : ℕ) × LiveGroup g i × (id_at g i ≡ id) × DrainedQueue (queue_at g i)
+      closed_was : (removed g id).answer ≡ Ok tt → (i : ℕ) × LiveGroup g i × (id_at g i ≡ id) × DrainedQueue (queue_at g i)
       closed_was h =
           let c = close_means g id l h in
           let s = spot_live g id c.0 l c.1 in
           (c.0, record { places = l; sound = (spot_means g id c.0 c.1).0; inside = s.0; live = s.1 }, s.2, c.2)
 
-      drained_may : (i : ℕ) × LiveGroup g i × (id_at g i ≡ id) × DrainedQueue (queue_at g i) → (removed g id).answer ≡ Closed.Done
+      drained_may : (i : ℕ) × LiveGroup g i × (id_at g i ≡ id) × DrainedQueue (queue_at g i) → (removed g id).answer ≡ Ok tt
       drained_may d = drained_closes g id d.0 l d.1.sound d.1.inside d.1.live d.2 d.3
 
-  pub close_frees_lem : (i : ℕ) → LiveGroup g i → (removed g (id_at g i)).answer ≡ Closed.Done → (removed g (id_at g i)).groups ≡ with_place g i free_place
+  pub close_frees_lem : (i : ℕ) → LiveGroup g i → (removed g (id_at g i)).answer ≡ Ok tt → (removed g (id_at g i)).groups ≡ with_place g i free_place
   close_frees_lem i p h =
       let c = close_means g (id_at g i) l h in
-      let e : Spot.At c.0 ≡ Spot.At i = sym c.1 ∙ live_spot g (id_at g i) l p.sound i p.inside p.live refl in
+      let e : Ok c.0 ≡ Ok i = sym c.1 ∙ live_spot g (id_at g i) l p.sound i p.inside p.live refl in
       let z : c.0 ≡ i = cc in
       c.3 ∙ ap (λ (m : ℕ). with_place g m free_place) z
 
   -- ---- sealing
-  sealed_was : (sealed_in g).answer ≡ Closed.Done → (well_grouped g ≡ true) × (g.sealed ≡ false)
+  sealed_was : (sealed_in g).answer ≡ Ok tt → (well_grouped g ≡ true) × (g.sealed ≡ false)
   sealed_was =
-      seal_by (λ (r : CloseAnswer). r.answer ≡ Closed.Done → (well_grouped g ≡ true) × (g.sealed ≡ false)) g
-      (λ _ _ h. let z : ◌≡◌ {A = ℕ} 0 1 = cc in absurd (omega arith)) (λ u _ _. unsealed_means g u)
+      seal_by (λ (r : GroupsAnswered Closed). r.answer ≡ Ok tt → (well_grouped g ≡ true) × (g.sealed ≡ false)) g
+      (λ _ h. err_ok h) (λ u _ _. unsealed_means g u)
 
-  pub seals_exactly_lem : ((sealed_in g).answer ≡ Closed.Done) ↔ ((well_grouped g ≡ true) × (g.sealed ≡ false) × ((i : ℕ) → i < 16 → LiveAt g i → DrainedQueue (queue_at g i)))
+  pub seals_exactly_lem : ((sealed_in g).answer ≡ Ok tt) ↔ ((well_grouped g ≡ true) × (g.sealed ≡ false) × ((i : ℕ) → i < 16 → LiveAt g i → DrainedQueue (queue_at g i)))
   seals_exactly_lem = (λ h. ((sealed_was h).0, (sealed_was h).1, (seal_drops g l h).0), λ d. drained_seals g l d.0 d.1 d.2)
 
   -- the whole record that sealing leaves
-  pub seal_leaves_lem : (sealed_in g).answer ≡ Closed.Done → (sealed_in g).groups ≡ record { base = g.base; next = g.next; sealed = true; places = replicate 16 free_place }
+  pub seal_leaves_lem : (sealed_in g).answer ≡ Ok tt → (sealed_in g).groups ≡ record { base = g.base; next = g.next; sealed = true; places = replicate 16 free_place }
   unfolding sealing
   seal_leaves_lem h = (seal_drops g l h).1
 
-  pub sealed_for_good_lem : (sealed_in g).answer ≡ Closed.Done → (cs : List GroupCall) (id : ℕ) → IsLive (groups_after_all (sealed_in g).groups cs) id → ⊥
+  pub sealed_for_good_lem : (sealed_in g).answer ≡ Ok tt → (cs : List GroupCall) (id : ℕ) → IsLive (groups_after_all (sealed_in g).groups cs) id → ⊥
   unfolding sealing
   sealed_for_good_lem h cs id v =
       let s : (sealed_in g).groups.sealed ≡ true = ap (λ (r : Groups). r.sealed) (seal_drops g l h).1 in
@@ -361,11 +351,11 @@ module _ (g : Groups) (l : SixteenPlaces g) where
 same_frame : (g : Groups) → Frame g g
 same_frame g = record { base = refl; next = refl; sealed = refl; marks = λ i. refl; ids = λ i. refl }
 
-pub round_exactly_lem : (g : Groups) → ((retried_all g).answer ≡ Yes) ↔ (can_retry_all_of g ≡ Yes)
+pub round_exactly_lem : (g : Groups) → ((retried_all g).answer ≡ Ok true) ↔ (can_retry_all_of g ≡ Ok true)
 round_exactly_lem g = (λ h. let y = round_yes g h in yes_told g (retries_all g) y.0 y.1, λ h. let y = told_yes g (retries_all g) h in round_happens_lem g y.0 y.1)
 
-pub round_retries_lem : (g : Groups) (i : ℕ) → LiveGroup g i → (retried_all g).answer ≡ Yes → (queue_at g i).failed ≡ true
-    → (queue_at (retried_all g).groups i ≡ (retried (queue_at g i)).queue) × ((t : Ticket) × ((retried (queue_at g i)).answer ≡ Retried.Again t))
+pub round_retries_lem : (g : Groups) (i : ℕ) → LiveGroup g i → (retried_all g).answer ≡ Ok true → (queue_at g i).failed ≡ true
+    → (queue_at (retried_all g).groups i ≡ (retried (queue_at g i)).queue) × ((t : Ticket) × ((retried (queue_at g i)).answer ≡ Ok t))
 round_retries_lem g i p h f =
     let y = round_yes g h in
     (ap (λ (r : Groups). queue_at r i) y.2 ∙ round_at g i p.live f, round_renews g p.places y.1 i p.inside p.live f)
@@ -374,22 +364,22 @@ round_retries_lem g i p h f =
 pub round_stays : (g : Groups) → Frame g (retried_all g).groups
 unfolding retried_all
 round_stays g =
-    if_by (λ (r : RetryAllAnswer). Frame g r.groups) (not (well_grouped g)) _ _ (λ _. same_frame g)
-    (λ _. if_by (λ (r : RetryAllAnswer). Frame g r.groups) (not (retries_all g)) _ _ (λ _. same_frame g) (λ _. round_frame_lem g))
+    if_by (λ (r : GroupsAnswered Told). Frame g r.groups) (not (well_grouped g)) _ _ (λ _. same_frame g)
+    (λ _. if_by (λ (r : GroupsAnswered Told). Frame g r.groups) (not (retries_all g)) _ _ (λ _. same_frame g) (λ _. round_frame_lem g))
 
 pub round_keeps_place : (g : Groups) (i : ℕ) → (queue_at g i).failed ≡ false → place_at (retried_all g).groups i ≡ place_at g i
 unfolding retried_all
 round_keeps_place g i n =
-    if_by (λ (r : RetryAllAnswer). place_at r.groups i ≡ place_at g i) (not (well_grouped g)) _ _ (λ _. refl)
-    (λ _. if_by (λ (r : RetryAllAnswer). place_at r.groups i ≡ place_at g i) (not (retries_all g)) _ _ (λ _. refl)
+    if_by (λ (r : GroupsAnswered Told). place_at r.groups i ≡ place_at g i) (not (well_grouped g)) _ _ (λ _. refl)
+    (λ _. if_by (λ (r : GroupsAnswered Told). place_at r.groups i ≡ place_at g i) (not (retries_all g)) _ _ (λ _. refl)
     (λ _. by_round (λ (p : Place). p ≡ place_at g i) g i (λ _ f. clash f n) (λ _. refl)))
 
 -- ---- what a yes means
 module _ (q : Queue) where
-  may_retry_lem : not (stuck q) ≡ true → q.failed ≡ true → can_retry_told q ≡ Yes
+  may_retry_lem : not (stuck q) ≡ true → q.failed ≡ true → can_retry_told q ≡ Ok true
   may_retry_lem h f = yes_is (can_retry_told q) (not-false _ (sym (pass _ f) ∙ not-true _ h))
 
-  retry_may : (q.failed ≡ true → can_retry_told q ≡ Yes) → not (stuck q) ≡ true
+  retry_may : (q.failed ≡ true → can_retry_told q ≡ Ok true) → not (stuck q) ≡ true
   retry_may h = go q.failed refl
     where
       go : (b : Bool) → q.failed ≡ b → not (stuck q) ≡ true
@@ -417,18 +407,18 @@ module _ (g : Groups) (target : List ℕ) (i : ℕ) where
 
 module _ (g : Groups) (l : SixteenPlaces g) where
   abbrev Meaning : RecordQuestion → Type 0
-  Meaning a = (record_told g a ≡ Yes) ↔ ((well_grouped g ≡ true) × YesMeans g a)
+  Meaning a = (record_told g a ≡ Ok true) ↔ ((well_grouped g ≡ true) × YesMeans g a)
 
-  seal_yes : can_seal_of g ≡ Yes → (well_grouped g ≡ true) × ((i : ℕ) → i < 16 → LiveAt g i → DrainedQueue (queue_at g i))
+  seal_yes : can_seal_of g ≡ Ok true → (well_grouped g ≡ true) × ((i : ℕ) → i < 16 → LiveAt g i → DrainedQueue (queue_at g i))
   seal_yes h =
       let w : well_grouped g ≡ true = (told_yes g (not (some_yes g Undrained [])) h).0 in
       (w, λ i k a. drained_means (queue_at g i) ((sound_means g l w).queues i k a) (seal_means g l h i k a))
 
-  yes_seal : well_grouped g ≡ true → ((i : ℕ) → i < 16 → LiveAt g i → DrainedQueue (queue_at g i)) → can_seal_of g ≡ Yes
+  yes_seal : well_grouped g ≡ true → ((i : ℕ) → i < 16 → LiveAt g i → DrainedQueue (queue_at g i)) → can_seal_of g ≡ Ok true
   yes_seal w d = means_seal g l w (λ i k a. means_drained (queue_at g i) ((sound_means g l w).queues i k a) (d i k a))
 
   pub yes_means_lem : (a : RecordQuestion) → Meaning a
-  yes_means_lem (asks_contains id) = (λ h. ((told_yes g (some_yes g (Holds id) []) h).0, contains_means g l id h), λ m. means_contains g l id m.0 m.1)
+  yes_means_lem (asks_contains id) = (λ h. ((told_yes g (some_yes g (HoldsId id) []) h).0, contains_means g l id h), λ m. means_contains g l id m.0 m.1)
   yes_means_lem asks_none_live = (λ h. ((told_yes g (not (some_yes g Live [])) h).0, empty_means_lem g l h), λ m. means_empty g l m.0 m.1)
   yes_means_lem asks_some_pending = (λ h. ((told_yes g (some_yes g Pending []) h).0, pending_means g l h), λ m. means_pending g l m.0 m.1)
   yes_means_lem asks_some_issued = (λ h. ((told_yes g (some_yes g Issued []) h).0, issued_means g l h), λ m. means_issued g l m.0 m.1)

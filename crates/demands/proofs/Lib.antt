@@ -1,3 +1,4 @@
+pub mod OwnNumbers
 pub mod QuestionTheorems
 pub mod GroupTheorems
 pub mod RoundHappens

@@ -1,12 +1,14 @@
 -- The three demands hold, and the library's: each field by the law that says it
 use Prim.Native.Nat.{ℕ, ◌<◌}
-use mathlib.Core.Path.{◌≡◌, refl, ap, ◌∙◌}
+use mathlib.Core.Path.{◌≡◌, refl, sym, ap, ◌∙◌}
 use mathlib.Core.Logic.{◌↔◌}
 use mathlib.Core.Bool.{false}
 use mathlib.Core.List.{List, []}
 use native.Mathlib.Omega.{arith}
 use lib.ListN.{length}
-use Rattle.queue_record.specs.Refusals.{done}
+use Rattle.std.specs.Prelude.{Option, None}
+use Rattle.queue_record.specs.Refusals.{done, result_number}
+use Rattle.queue_record.specs.declared.refusal.Refusal.{Refusal}
 use Rattle.queue_record.specs.Blank.{is_blank}
 use Rattle.queue_record.specs.Openings.{blank, scope_of, opened_as}
 use Rattle.queue_record.specs.declared.record.Queue.{Queue}
@@ -15,13 +17,13 @@ use Rattle.queue_record.proofs.BlankOnly.{blank_passes, blank_only}
 use Rattle.stage.proofs.Sets.{same_means, means_same}
 use Rattle.queue_questions.specs.Questions.{committed, matches}
 use Rattle.cleanup_queue.specs.Orders.{first_due, first_said, RefusedAs, broken_only}
-use Rattle.cleanup_queue.proofs.Numbers.{opening_number, register_number, land_number, pop_number, complete_number, retry_number, questions_number}
+use Rattle.cleanup_queue.proofs.Numbers.{refusal_due, opening_number, register_number, land_number, pop_number, complete_number, retry_number, questions_number}
 use Rattle.cleanup_queue.proofs.Numbers.{admit_number, end_number, cancel_number, domain_number}
 use Rattle.cleanup_queue.proofs.Said.{opening_refused, register_refused, land_refused, pop_refused, complete_refused, retry_refused, admit_refused}
 use Rattle.cleanup_queue.proofs.Said.{end_refused, cancel_refused, opening_no_zero, register_no_zero, land_no_zero, pop_no_zero, complete_no_zero}
 use Rattle.cleanup_queue.proofs.Said.{retry_no_zero, admit_no_zero, end_no_zero, cancel_no_zero}
 use Rattle.cleanup_queue.proofs.Said.{register_said, land_said, pop_said_lem, complete_said_lem, retry_said_lem, admit_said, end_said, cancel_said_lem}
-use Rattle.cleanup_queue.proofs.HandsOut.{pop_exactly, pop_hands, pop_never_hollow}
+use Rattle.cleanup_queue.proofs.HandsOut.{pop_exactly, pop_hands}
 use Rattle.cleanup_queue.proofs.Upstream.{waiting_rises_lem, waits_exactly_lem, call_keeps_opening, register_leaves, land_leaves, register_pushes, land_pushes, land_moves_lem}
 use Rattle.cleanup_queue.proofs.Upstream.{pop_empties, pop_leaves_lem, pop_next, pop_issues, complete_leaves_lem, complete_takes_back, told_retries, retries_told}
 use Rattle.cleanup_queue.proofs.Upstream.{admit_leaves, end_leaves, cancel_leaves, admit_moves, end_moves, cancel_moves}
@@ -62,13 +64,14 @@ use Rattle.cleanup_groups.proofs.Room.{scope_opens_exactly, iterator_opens_exact
 use Rattle.cleanup_groups.proofs.Rounds.{round_no}
 use Rattle.cleanup_groups.proofs.Upstream.{scope_as, iterator_as}
 use Rattle.cleanup_groups.proofs.Says.{len_says_lem, new_numbered, get_numbered}
-use Rattle.cleanup_log.proofs.ReaderNumbers.{reader_number, reader_blank}
+use Rattle.cleanup_log.proofs.ReaderNumbers.{reader_number}
+use Rattle.log_entries.specs.Noting.{changes}
 use Rattle.log_reader.proofs.ReaderLanguage.{reader_language}
 use Rattle.log_reader.proofs.Rightly.{reads_from}
 use Rattle.log_reader.proofs.Unique.{reads_one}
 use Rattle.history.specs.Histories.{Bench, number_of}
 use Rattle.history.specs.Benches.{BenchCall, call_on}
-use Rattle.history.proofs.Written.{refused_stays, goes, quiet_stays}
+use Rattle.history.proofs.Written.{refused_stays, quiet_stays}
 use Rattle.history.proofs.Accepts.{history_read, bad_read}
 use Rattle.history.proofs.Demand.{same_record}
 use Rattle.history.proofs.WordLogs.{word_logs}
@@ -80,12 +83,13 @@ use Rattle.library_laws.proofs.NeverOne.{never_one_lem, never_one_asked_lem}
 use Rattle.demands.specs.CallTables.{said_by, order_of, given_to, NotRefusedWith0, RecordedNotRefusedWith0, left_by, own_values, QueueQuestion, asks_empty, asks_issued, asks_pending, asks_settled}
 use Rattle.demands.specs.CallTables.{asks_cancelled, asks_failed, asks_retry, asks_finish, asks_domain, told_to, SixteenPlaces}
 use Rattle.demands.specs.Demands.{Demand1, Demand2, Demand3, LibraryDemand}
+use Rattle.demands.proofs.OwnNumbers.{own_number_lem, never_9, unrefused, blank_read_lem}
 use Rattle.demands.proofs.QuestionTheorems.{asks_say_lem, asked_valued, asked_valued_by_id, accepts_valued, record_valued, len_tells_lem}
 use Rattle.demands.proofs.GroupTheorems.{one_number_groups_lem, one_number_groups_asked_lem, groups_not_refused_with_0, groups_unchanged_lem, empty_new_lem, blank_get_lem, new_has_root_lem}
 use Rattle.demands.proofs.GroupTheorems.{group_as_queue_lem, asked_as_queue, get_gives_lem, no_such_group_lem, other_groups_stay_lem, closes_exactly_lem, close_frees_lem}
 use Rattle.demands.proofs.RoundHappens.{round_said_yes}
 use Rattle.demands.proofs.GroupTheorems.{seals_exactly_lem, seal_leaves_lem, round_stays, sealed_for_good_lem, round_exactly_lem, round_retries_lem, round_keeps_place, yes_means_lem}
-use Rattle.demands.proofs.RecordedTheorems.{recorded_answers_lem, refused_recorded_lem}
+use Rattle.demands.proofs.RecordedTheorems.{recorded_answers_lem, refused_recorded_lem, row_is_written_lem}
 use Rattle.demands.proofs.LibraryTheorems.{words_are_records_lem, sound_told_lem, opens_as_the_call_lem, as_the_call_lem, asked_as_the_call_lem, recorded_as_the_call_lem}
 use Rattle.demands.proofs.LibraryTheorems.{no_record_lem, no_record_logged_lem, made_refused, session_steps_lem}
 
@@ -112,7 +116,7 @@ one_number_asked_lem q (asks_finish target) = (questions_number q target).7
 one_number_asked_lem q asks_domain = domain_number q
 
 one_number_recorded_lem : (b : Bench) (c : BenchCall)
-    → number_of b (call_on b.queue c) ≡ first_due (recorded_order (length b.log) b.used (order_of b.queue c) (entry_of b.queue (call_on b.queue c)).changed)
+    → number_of b (call_on b.queue c) ≡ first_due (recorded_order (length b.log) b.used (order_of b.queue c) (changes (entry_of b.queue (call_on b.queue c))))
 one_number_recorded_lem b (BenchCall.register n) = register_recorded_number b.queue b.log b.used n
 one_number_recorded_lem b (BenchCall.land n) = land_recorded_number b.queue b.log b.used n
 one_number_recorded_lem b BenchCall.pop = pop_recorded_number b.queue b.log b.used
@@ -174,8 +178,14 @@ blank_is = refl
 counts_none : (g : Groups) → SixteenPlaces g → (live_count g.places ≡ 0) ↔ ((i : ℕ) → i < 16 → (place_at g i).live ≡ false)
 counts_none g l = (λ h i k. count_none g.places h i (omega arith), λ f. none_count g.places (λ i k. f i (omega arith)))
 
+-- of a list that nothing refuses exactly if A holds, the number says so
+unrefused_if : {A : Type 0} {o : Option Refusal} → (o ≡ None) ↔ A → (result_number o ≡ done) ↔ A
+unrefused_if {o = o} h = (λ z. h.0 (unrefused o z), λ a. ap result_number (h.1 a))
+
 pub demand1 : Demand1
 demand1 = record {
+  own_number = own_number_lem;
+  first_number = λ ds. sym (refusal_due ds);
   one_number = one_number_lem;
   one_number_asked = one_number_asked_lem;
   one_number_opening = opening_number;
@@ -183,7 +193,7 @@ demand1 = record {
   refusal_is_not0 = (not_refused_with_0, opening_no_zero);
   recorded_refusal_is_not0 = recorded_not_refused_with_0;
   asked_refusal_is_not0 = (asked_valued, asked_valued_by_id, accepts_valued, record_valued, len_tells_lem);
-  never_hollow = pop_never_hollow;
+  never_hollow = never_9;
   nothing_changed = nothing_changed_lem;
   blank_opening = opening_refused;
   nothing_changed_recorded = λ b c. refused_stays b (call_on b.queue c);
@@ -192,19 +202,19 @@ demand1 = record {
   refused_recorded = refused_recorded_lem;
   list_number = all_number;
   list_number_recorded = list_number_lem;
-  list_unrefused = (all_done, list_done);
+  list_unrefused = (λ q ns. unrefused_if (all_done q ns), λ b ns. unrefused_if (list_done b ns));
   list_keeps = (all_separate, list_queue, λ g id ns l. groups_in_turn_lem g id l ns);
   list_none_taken = (all_none, list_none);
   list_empty = (all_empty, list_empty_lem);
   one_number_read = reader_number;
-  blank_read = reader_blank;
+  blank_read = blank_read_lem;
   one_number_groups = one_number_groups_lem;
   one_number_groups_asked = one_number_groups_asked_lem;
   one_number_new = new_number;
-  groups_refusal_is_not0 = (groups_not_refused_with_0, λ base e. new_numbered base done e refl, λ g id e. get_numbered g id done e refl);
+  groups_refusal_is_not0 = (groups_not_refused_with_0, new_numbered, get_numbered);
   groups_unchanged = groups_unchanged_lem;
   list_number_groups = register_all_number;
-  list_unrefused_groups = λ g id ns l. groups_done_exactly g id l ns;
+  list_unrefused_groups = λ g id ns l. unrefused_if (groups_done_exactly g id l ns);
   list_none_taken_groups = groups_none_taken;
   list_empty_groups = groups_empty_list;
   empty_new = empty_new_lem;
@@ -290,7 +300,7 @@ pub demand3 : Demand3
 demand3 = record {
   rows_name_changes = call_changes;
   quiet_call = quiet_stays;
-  row_is_written = λ b c fit room. goes b c (record { fits = fit; room = room });
+  row_is_written = row_is_written_lem;
   list_is_recorded = list_made;
   list_rows = list_used;
   listed_same = λ s b. (listed_history, history_listed);

@@ -1,22 +1,17 @@
 -- The public calls of queue and groups, a line each: what a call says, in which order it refuses, what it was given, what it leaves
-use Rattle.std.specs.Prelude.{ℕ, ◌<◌, ◌≡◌, Bool, true, false, List, [], ◌∷◌, eqb, length}
+use Rattle.std.specs.Prelude.{ℕ, ◌<◌, ◌≡◌, Bool, true, false, List, [], ◌∷◌, eqb, length, Ok, Err}
 use Rattle.choice.specs.Choice.{bit}
 use Rattle.stage.specs.Phases.{phase_after, is_pending, is_settled, is_cancelled, phase_number}
 use Rattle.stage.specs.declared.phases.Phase.{Phase}
 use Rattle.stage.specs.declared.phases.Event.{Event}
-use Rattle.queue_record.specs.Refusals.{done}
+use Rattle.queue_record.specs.Refusals.{done, refusal_number}
+use Rattle.queue_record.specs.declared.refusal.Refusal.{Refusal}
 use Rattle.queue_record.specs.Waiting.{waiting}
 use Rattle.queue_record.specs.declared.record.Queue.{Queue}
 use Rattle.queue_births.specs.Births.{registered, landed}
 use Rattle.queue_steps.specs.Attempts.{popped, completed, retry_allowed, retried}
-use Rattle.queue_births.specs.declared.births.Registered.{Registered}
-use Rattle.queue_steps.specs.declared.attempts.Popped.{Popped}
-use Rattle.queue_steps.specs.declared.attempts.Completed.{Completed}
-use Rattle.queue_steps.specs.declared.attempts.Retried.{Retried}
 use Rattle.queue_stages.specs.Stages.{admitted, ended, cancelled_by}
-use Rattle.queue_stages.specs.declared.stages.Cancelled.{Cancelled}
 use Rattle.queue_questions.specs.Questions.{nothing_left, finishable, committed, matches, is_empty_told, is_issued_told, is_pending_told, is_settled_told, is_cancelled_told, has_failed_told, can_retry_told, can_finish_told, domain_told}
-use Rattle.queue_questions.specs.declared.questions.Told.{Told}
 use Rattle.cleanup_queue.specs.Answers.{Said, registered_says, popped_says, completed_says, retried_says, told_says, cancelled_says, domain_says}
 use Rattle.cleanup_queue.specs.Orders.{Ground, register_order, land_order, pop_order, work_values, complete_order, retry_order, renewed_values, broken_only}
 use Rattle.cleanup_queue.specs.Runs.{after}
@@ -27,9 +22,7 @@ use Rattle.group_check.specs.Ids.{got}
 use Rattle.group_questions.specs.ById.{is_empty_in, is_issued_in, is_pending_in, is_settled_in, is_cancelled_in, has_failed_in, can_retry_in, can_finish_in, domain_in, accepts_in}
 use Rattle.group_survey.specs.Whole.{contains_told, is_empty_of, has_pending_of, has_issued_of, has_failed_of, can_retry_all_of, can_finish_of, can_seal_of, can_add_of, len_of}
 use Rattle.group_openings.specs.Openings.{added_scope, added_iterator}
-use Rattle.group_openings.specs.declared.openings.Added.{Added}
 use Rattle.group_endings.specs.Endings.{removed, sealed_in}
-use Rattle.group_endings.specs.declared.endings.Closed.{Closed}
 use Rattle.group_steps.specs.Births.{registered_in, landed_in}
 use Rattle.group_steps.specs.Attempts.{popped_in, completed_in, retried_in}
 use Rattle.group_stages.specs.Stages.{admitted_in, admitted_in_without, ended_in, cancelled_in}
@@ -42,6 +35,7 @@ use Rattle.log_births.specs.Births.{register_recorded, land_recorded}
 use Rattle.log_attempts.specs.Attempts.{pop_recorded, complete_recorded, retry_recorded}
 use Rattle.log_stages.specs.Stages.{admit_recorded, end_recorded, cancel_recorded}
 use Rattle.history.specs.Benches.{BenchCall, call_on}
+use Rattle.queue_questions.specs.Types.{Told}
 
 -- ---- the calls of a queue that may change it, each with its inputs: what one says, in which order it refuses, what it was given
 abbrev pub said_by : Queue → BenchCall → Said
@@ -80,27 +74,27 @@ given_to BenchCall.cancel = []
 
 -- its refusal never has the number 0, which says done
 abbrev pub NotRefusedWith0 : Queue → BenchCall → Type 0
-NotRefusedWith0 q (BenchCall.register n) = (given : ℕ) → (registered q n).answer ≡ Registered.Refused done given → ⊥
-NotRefusedWith0 q (BenchCall.land n) = (given : ℕ) → (landed q n).answer ≡ Registered.Refused done given → ⊥
-NotRefusedWith0 q BenchCall.pop = (popped q).answer ≡ Popped.Refused done → ⊥
-NotRefusedWith0 q (BenchCall.complete t outcome kept) = (given : ℕ) → (completed q t outcome kept).answer ≡ Completed.Refused done given → ⊥
-NotRefusedWith0 q BenchCall.retry = (retried q).answer ≡ Retried.Refused done → ⊥
-NotRefusedWith0 q (BenchCall.admit target) = (admitted q (matches q target)).answer ≡ Told.Refused done → ⊥
-NotRefusedWith0 q BenchCall.admit_without = (admitted q false).answer ≡ Told.Refused done → ⊥
-NotRefusedWith0 q BenchCall.end = (ended q).answer ≡ Told.Refused done → ⊥
-NotRefusedWith0 q BenchCall.cancel = (cancelled_by q).answer ≡ Cancelled.Refused done → ⊥
+NotRefusedWith0 q (BenchCall.register n) = (refusal : Refusal) (given : ℕ) → (registered q n).answer ≡ Err (refusal, given) → refusal_number refusal ≡ done → ⊥
+NotRefusedWith0 q (BenchCall.land n) = (refusal : Refusal) (given : ℕ) → (landed q n).answer ≡ Err (refusal, given) → refusal_number refusal ≡ done → ⊥
+NotRefusedWith0 q BenchCall.pop = (refusal : Refusal) → (popped q).answer ≡ Err refusal → refusal_number refusal ≡ done → ⊥
+NotRefusedWith0 q (BenchCall.complete t outcome kept) = (refusal : Refusal) (given : ℕ) → (completed q t outcome kept).answer ≡ Err (refusal, given) → refusal_number refusal ≡ done → ⊥
+NotRefusedWith0 q BenchCall.retry = (refusal : Refusal) → (retried q).answer ≡ Err refusal → refusal_number refusal ≡ done → ⊥
+NotRefusedWith0 q (BenchCall.admit target) = (refusal : Refusal) → (admitted q (matches q target)).answer ≡ Err refusal → refusal_number refusal ≡ done → ⊥
+NotRefusedWith0 q BenchCall.admit_without = (refusal : Refusal) → (admitted q false).answer ≡ Err refusal → refusal_number refusal ≡ done → ⊥
+NotRefusedWith0 q BenchCall.end = (refusal : Refusal) → (ended q).answer ≡ Err refusal → refusal_number refusal ≡ done → ⊥
+NotRefusedWith0 q BenchCall.cancel = (refusal : Refusal) → (cancelled_by q).answer ≡ Err refusal → refusal_number refusal ≡ done → ⊥
 
 -- nor does that of the recorded call
 abbrev pub RecordedNotRefusedWith0 : Queue → List ℕ → ℕ → BenchCall → Type 0
-RecordedNotRefusedWith0 q log used (BenchCall.register n) = (given : ℕ) → (register_recorded q n log used).answer ≡ Registered.Refused done given → ⊥
-RecordedNotRefusedWith0 q log used (BenchCall.land n) = (given : ℕ) → (land_recorded q n log used).answer ≡ Registered.Refused done given → ⊥
-RecordedNotRefusedWith0 q log used BenchCall.pop = (pop_recorded q log used).answer ≡ Popped.Refused done → ⊥
-RecordedNotRefusedWith0 q log used (BenchCall.complete t outcome kept) = (given : ℕ) → (complete_recorded q t outcome kept log used).answer ≡ Completed.Refused done given → ⊥
-RecordedNotRefusedWith0 q log used BenchCall.retry = (retry_recorded q log used).answer ≡ Retried.Refused done → ⊥
-RecordedNotRefusedWith0 q log used (BenchCall.admit target) = (admit_recorded q (matches q target) log used).answer ≡ Told.Refused done → ⊥
-RecordedNotRefusedWith0 q log used BenchCall.admit_without = (admit_recorded q false log used).answer ≡ Told.Refused done → ⊥
-RecordedNotRefusedWith0 q log used BenchCall.end = (end_recorded q log used).answer ≡ Told.Refused done → ⊥
-RecordedNotRefusedWith0 q log used BenchCall.cancel = (cancel_recorded q log used).answer ≡ Cancelled.Refused done → ⊥
+RecordedNotRefusedWith0 q log used (BenchCall.register n) = (refusal : Refusal) (given : ℕ) → (register_recorded q n log used).answer ≡ Err (refusal, given) → refusal_number refusal ≡ done → ⊥
+RecordedNotRefusedWith0 q log used (BenchCall.land n) = (refusal : Refusal) (given : ℕ) → (land_recorded q n log used).answer ≡ Err (refusal, given) → refusal_number refusal ≡ done → ⊥
+RecordedNotRefusedWith0 q log used BenchCall.pop = (refusal : Refusal) → (pop_recorded q log used).answer ≡ Err refusal → refusal_number refusal ≡ done → ⊥
+RecordedNotRefusedWith0 q log used (BenchCall.complete t outcome kept) = (refusal : Refusal) (given : ℕ) → (complete_recorded q t outcome kept log used).answer ≡ Err (refusal, given) → refusal_number refusal ≡ done → ⊥
+RecordedNotRefusedWith0 q log used BenchCall.retry = (refusal : Refusal) → (retry_recorded q log used).answer ≡ Err refusal → refusal_number refusal ≡ done → ⊥
+RecordedNotRefusedWith0 q log used (BenchCall.admit target) = (refusal : Refusal) → (admit_recorded q (matches q target) log used).answer ≡ Err refusal → refusal_number refusal ≡ done → ⊥
+RecordedNotRefusedWith0 q log used BenchCall.admit_without = (refusal : Refusal) → (admit_recorded q false log used).answer ≡ Err refusal → refusal_number refusal ≡ done → ⊥
+RecordedNotRefusedWith0 q log used BenchCall.end = (refusal : Refusal) → (end_recorded q log used).answer ≡ Err refusal → refusal_number refusal ≡ done → ⊥
+RecordedNotRefusedWith0 q log used BenchCall.cancel = (refusal : Refusal) → (cancel_recorded q log used).answer ≡ Err refusal → refusal_number refusal ≡ done → ⊥
 
 abbrev pub left_by : Queue → BenchCall → Queue
 left_by q c = after q (call_on q c)
@@ -208,20 +202,20 @@ given_to_groups GroupCall.retry_all = []
 
 -- its refusal never has the number 0
 abbrev pub GroupsNotRefusedWith0 : Groups → GroupCall → Type 0
-GroupsNotRefusedWith0 g GroupCall.add_scope = (added_scope g).answer ≡ Added.Refused done → ⊥
-GroupsNotRefusedWith0 g (GroupCall.add_iterator bindings) = (added_iterator g bindings).answer ≡ Added.Refused done → ⊥
-GroupsNotRefusedWith0 g (GroupCall.remove id) = (removed g id).answer ≡ Closed.Refused done → ⊥
-GroupsNotRefusedWith0 g GroupCall.seal = (sealed_in g).answer ≡ Closed.Refused done → ⊥
-GroupsNotRefusedWith0 g (GroupCall.register id n) = (given : ℕ) → (registered_in g id n).answer ≡ Registered.Refused done given → ⊥
-GroupsNotRefusedWith0 g (GroupCall.land id n) = (given : ℕ) → (landed_in g id n).answer ≡ Registered.Refused done given → ⊥
-GroupsNotRefusedWith0 g (GroupCall.pop id) = (popped_in g id).answer ≡ Popped.Refused done → ⊥
-GroupsNotRefusedWith0 g (GroupCall.complete id t outcome kept) = (given : ℕ) → (completed_in g id t outcome kept).answer ≡ Completed.Refused done given → ⊥
-GroupsNotRefusedWith0 g (GroupCall.retry id) = (retried_in g id).answer ≡ Retried.Refused done → ⊥
-GroupsNotRefusedWith0 g (GroupCall.admit id target) = (admitted_in g id target).answer ≡ Told.Refused done → ⊥
-GroupsNotRefusedWith0 g (GroupCall.admit_without id) = (admitted_in_without g id).answer ≡ Told.Refused done → ⊥
-GroupsNotRefusedWith0 g (GroupCall.end id) = (ended_in g id).answer ≡ Told.Refused done → ⊥
-GroupsNotRefusedWith0 g (GroupCall.cancel id) = (cancelled_in g id).answer ≡ Cancelled.Refused done → ⊥
-GroupsNotRefusedWith0 g GroupCall.retry_all = (retried_all g).answer ≡ Told.Refused done → ⊥
+GroupsNotRefusedWith0 g GroupCall.add_scope = (refusal : Refusal) → (added_scope g).answer ≡ Err refusal → refusal_number refusal ≡ done → ⊥
+GroupsNotRefusedWith0 g (GroupCall.add_iterator bindings) = (refusal : Refusal) → (added_iterator g bindings).answer ≡ Err refusal → refusal_number refusal ≡ done → ⊥
+GroupsNotRefusedWith0 g (GroupCall.remove id) = (refusal : Refusal) → (removed g id).answer ≡ Err refusal → refusal_number refusal ≡ done → ⊥
+GroupsNotRefusedWith0 g GroupCall.seal = (refusal : Refusal) → (sealed_in g).answer ≡ Err refusal → refusal_number refusal ≡ done → ⊥
+GroupsNotRefusedWith0 g (GroupCall.register id n) = (refusal : Refusal) (given : ℕ) → (registered_in g id n).answer ≡ Err (refusal, given) → refusal_number refusal ≡ done → ⊥
+GroupsNotRefusedWith0 g (GroupCall.land id n) = (refusal : Refusal) (given : ℕ) → (landed_in g id n).answer ≡ Err (refusal, given) → refusal_number refusal ≡ done → ⊥
+GroupsNotRefusedWith0 g (GroupCall.pop id) = (refusal : Refusal) → (popped_in g id).answer ≡ Err refusal → refusal_number refusal ≡ done → ⊥
+GroupsNotRefusedWith0 g (GroupCall.complete id t outcome kept) = (refusal : Refusal) (given : ℕ) → (completed_in g id t outcome kept).answer ≡ Err (refusal, given) → refusal_number refusal ≡ done → ⊥
+GroupsNotRefusedWith0 g (GroupCall.retry id) = (refusal : Refusal) → (retried_in g id).answer ≡ Err refusal → refusal_number refusal ≡ done → ⊥
+GroupsNotRefusedWith0 g (GroupCall.admit id target) = (refusal : Refusal) → (admitted_in g id target).answer ≡ Err refusal → refusal_number refusal ≡ done → ⊥
+GroupsNotRefusedWith0 g (GroupCall.admit_without id) = (refusal : Refusal) → (admitted_in_without g id).answer ≡ Err refusal → refusal_number refusal ≡ done → ⊥
+GroupsNotRefusedWith0 g (GroupCall.end id) = (refusal : Refusal) → (ended_in g id).answer ≡ Err refusal → refusal_number refusal ≡ done → ⊥
+GroupsNotRefusedWith0 g (GroupCall.cancel id) = (refusal : Refusal) → (cancelled_in g id).answer ≡ Err refusal → refusal_number refusal ≡ done → ⊥
+GroupsNotRefusedWith0 g GroupCall.retry_all = (refusal : Refusal) → (retried_all g).answer ≡ Err refusal → refusal_number refusal ≡ done → ⊥
 
 -- where an answer's number is not 0, its values are those given back, and the record with it is g
 abbrev pub GroupsRefusedAs : Groups → List ℕ → Said → Groups → Type 0
@@ -294,7 +288,7 @@ record_told g asks_room = can_add_of g
 
 -- can_finish asks this of the live place i: neither pending nor failed, and of every id but 0 the queue's own can_finish
 abbrev pub Finishes : Groups → List ℕ → ℕ → Type 0
-Finishes g target i = (is_pending (queue_at g i).phase ≡ false) × ((queue_at g i).failed ≡ false) × ((id_at g i ≡ 0 → ⊥) → can_finish_told (queue_at g i) target ≡ Told.Yes)
+Finishes g target i = (is_pending (queue_at g i).phase ≡ false) × ((queue_at g i).failed ≡ false) × ((id_at g i ≡ 0 → ⊥) → can_finish_told (queue_at g i) target ≡ Ok true)
 
 -- what a yes to it means
 abbrev pub YesMeans : Groups → RecordQuestion → Type 0
@@ -303,10 +297,10 @@ YesMeans g asks_none_live = (i : ℕ) → i < 16 → (place_at g i).live ≡ fal
 YesMeans g asks_some_pending = SomeLive g (λ id q. is_pending q.phase)
 YesMeans g asks_some_issued = SomeLive g (λ id q. q.issued)
 YesMeans g asks_some_failed = SomeLive g (λ id q. q.failed)
-YesMeans g asks_retry_all = SomeLive g (λ id q. q.failed) × ((i : ℕ) → i < 16 → LiveAt g i → (queue_at g i).failed ≡ true → can_retry_told (queue_at g i) ≡ Told.Yes)
+YesMeans g asks_retry_all = SomeLive g (λ id q. q.failed) × ((i : ℕ) → i < 16 → LiveAt g i → (queue_at g i).failed ≡ true → can_retry_told (queue_at g i) ≡ Ok true)
 YesMeans g (asks_all_finish target) = (i : ℕ) → i < 16 → LiveAt g i → Finishes g target i
 YesMeans g asks_seal = (i : ℕ) → i < 16 → LiveAt g i → DrainedQueue (queue_at g i)
-YesMeans g asks_room = (added_scope g).answer ≡ Added.Id g.next
+YesMeans g asks_room = (added_scope g).answer ≡ Ok g.next
 
 -- any question: one to a group, accepts_acquisition, get, one to the record, and len
 pub data GroupQuestion : Type 0 where

@@ -1,35 +1,29 @@
 -- The three demands, and one on the library, a field for each sentence, over the definitions that the contracts of the public calls cite
-use Rattle.std.specs.Prelude.{ℕ, ◌+◌, ◌-◌, ◌<◌, ◌≤◌, min, ◌≡◌, ◌↔◌, Bool, true, false, not, List, [], ◌∷◌, length, take, set, replicate}
+use Rattle.std.specs.Prelude.{ℕ, ◌+◌, ◌-◌, ◌<◌, ◌≤◌, min, ◌≡◌, ◌↔◌, Bool, true, false, not, List, [], ◌∷◌, length, take, set, replicate, Some, None, Ok, Err}
+use Rattle.queue_record.specs.declared.refusal.Refusal.{Refusal}
 use Rattle.queue_record.specs.Record.{Sized}
 use Rattle.choice.specs.Choice.{when◌then◌else◌}
 use Rattle.stage.specs.Bindings.{member, SameMembers}
 use Rattle.stage.specs.Phases.{phase_after, is_pending, is_cancelled}
 use Rattle.stage.specs.declared.phases.Phase.{Phase}
 use Rattle.stage.specs.declared.phases.Event.{Event}
-use Rattle.queue_record.specs.Refusals.{done, broken, hollow, no_group, bad_log}
+use Rattle.queue_record.specs.declared.refusal.Refusal.TheVariants.{Broken, NoGroup}
+use Rattle.queue_record.specs.Refusals.{done, broken, hollow, no_group, bad_log, refusal_number, result_number}
 use Rattle.queue_record.specs.WellFormed.{well_formed}
 use Rattle.queue_record.specs.Blank.{is_blank}
 use Rattle.queue_record.specs.Waiting.{waiting}
 use Rattle.queue_record.specs.Openings.{Opening, blank, scope_of, iterator_of, opened_as}
 use Rattle.queue_record.specs.declared.record.Ticket.{Ticket}
-use Rattle.queue_record.specs.declared.record.Selection.TheVariants.{Free, Of}
 use Rattle.queue_record.specs.declared.record.Queue.{Queue}
-use Rattle.queue_record.specs.declared.openings.Opened.{Opened}
 use Rattle.queue_decisions.specs.Slots.{no_more}
 use Rattle.queue_births.specs.Births.{registered, landed}
 use Rattle.queue_births.specs.Sequences.{took_as, took_none, registered_all}
 use Rattle.queue_steps.specs.Attempts.{slot, popped, completed, retried}
-use Rattle.queue_births.specs.declared.births.Registered.{Registered}
-use Rattle.queue_steps.specs.declared.attempts.Popped.{Popped}
-use Rattle.queue_steps.specs.declared.attempts.Popped.TheVariants.{Work}
-use Rattle.queue_steps.specs.declared.attempts.Completed.{Completed}
-use Rattle.queue_steps.specs.declared.attempts.Retried.{Retried}
 use Rattle.queue_stages.specs.Stages.{admitted, ended, cancelled_by}
 use Rattle.queue_questions.specs.Questions.{yes_or_no, committed, matches, is_empty_told, can_retry_told, can_finish_told}
-use Rattle.queue_questions.specs.declared.questions.Told.TheVariants.{Yes}
 use Rattle.cleanup_queue.specs.Answers.{says, opened_says, told_says}
 use Rattle.cleanup_queue.specs.Marked.{table, definition_says, paper_says}
-use Rattle.cleanup_queue.specs.Orders.{due, first_due, first_said, RefusedAs, opening_order, broken_only}
+use Rattle.cleanup_queue.specs.Orders.{Ground, due, first_refusal, first_due, first_said, RefusedAs, opening_order, broken_only}
 use Rattle.cleanup_queue.specs.Parts.{OpenedParts, SameOpening, LeavesSelected, Pushes, Appends, Drops, TakesNext, TakesBack, RenewsTo, StaysButPhase}
 use Rattle.cleanup_queue.specs.Promises.{hands_out, may_hand_out, HandedOut, Finishable}
 use Rattle.cleanup_queue.specs.SoundQueues.{SoundQueue}
@@ -40,14 +34,11 @@ use Rattle.group_record.specs.declared.record.Groups.{Groups}
 use Rattle.group_check.specs.WellFormed.{last_base, well_grouped}
 use Rattle.group_check.specs.Count.{live_count}
 use Rattle.group_check.specs.Ids.{got}
-use Rattle.group_check.specs.declared.ids.Got.{Got}
 use Rattle.group_questions.specs.ById.{accepts_in}
 use Rattle.group_survey.specs.Whole.{can_retry_all_of, len_of}
 use Rattle.group_openings.specs.Openings.{new_of, next_domain, added_scope, added_iterator}
-use Rattle.group_openings.specs.declared.openings.Added.{Added}
 use Rattle.group_endings.specs.Endings.{removed, sealed_in}
 use Rattle.group_steps.specs.Sequences.{registered_all_in}
-use Rattle.group_endings.specs.declared.endings.Closed.{Closed}
 use Rattle.group_rounds.specs.Rounds.{retried_all}
 use Rattle.cleanup_groups.specs.Answers.{len_says, got_says}
 use Rattle.cleanup_groups.specs.Orders.{new_order, id_order, step_order}
@@ -55,7 +46,9 @@ use Rattle.cleanup_groups.specs.Promises.{LiveAt, id_at, IsLive, DrainedQueue, R
 use Rattle.cleanup_groups.specs.Runs.{GroupCall, groups_after, groups_after_all}
 use Rattle.cleanup_groups.specs.Sequences.{registers_in, took_none_in}
 use Rattle.log_rows.specs.Rows.{rows, flat, written}
+use Rattle.log_rows.specs.declared.Row.{Row}
 use Rattle.log_rows.specs.Appending.{rows_fit, has_room, free_rows}
+use Rattle.log_entries.specs.Noting.{changes}
 use Rattle.log_births.specs.Births.{register_recorded, land_recorded}
 use Rattle.log_attempts.specs.Attempts.{complete_recorded}
 use Rattle.log_language.specs.Readings.{every}
@@ -63,8 +56,6 @@ use Rattle.log_language.specs.FirstBad.{WordsBelong}
 use Rattle.log_reader.specs.Reader.{ReadsAs, read_says, reading, setting_of}
 use Rattle.log_reader.specs.Walk.{read_from}
 use Rattle.log_reader.specs.InLanguage.{InLanguage}
-use Rattle.log_reader.specs.declared.reading.Read.{Read}
-use Rattle.log_reader.specs.declared.reading.Reading.{Reading}
 use Rattle.cleanup_log.specs.RecordedOrders.{recorded_order, read_order}
 use Rattle.cleanup_log.specs.Entries.{entry_of}
 use Rattle.history.specs.Histories.{Bench, bench, called, number_of, Start, History, Made, words_written, rows_of, opened_queue}
@@ -87,40 +78,45 @@ use Rattle.demands.specs.CallTables.{RecordQuestion, record_told, YesMeans, Grou
 use Rattle.demands.specs.CallTables.{LiveGroup}
 use Rattle.demands.specs.RecordedTables.{said_recorded}
 use Rattle.demands.specs.LibraryTables.{bench_of, form_of, question_of, form_asked, bench_in, logged_as, LeavesSession}
+use Rattle.queue_record.specs.declared.answered.Answered.{Answered}
+use Rattle.log_reader.specs.Types.{Read}
 
 -- ---- demand 1: every record and every input gets one answer, a refusal has one number, changes nothing and gives the number back; of a
 -- whole list from the refusal on.
 -- That each call ends, on every input, is what its contract says by asking for nothing
 pub record Demand1 : Type 0 where
+  -- each refusal has a number of its own (R63: refusal_number); first_due is the number of the first that is due, and 0 where none is
+  pub own_number : (r s : Refusal) → refusal_number r ≡ refusal_number s → r ≡ s
+  pub first_number : (ds : List Ground) → result_number (first_refusal ds) ≡ first_due ds
   pub one_number : (q : Queue) (c : BenchCall) → (said_by q c).number ≡ first_due (order_of q c)
   pub one_number_asked : (q : Queue) (a : QueueQuestion) → (told_to q a).number ≡ first_due (broken_only q)
   pub one_number_opening : (o : Opening) → (opened_says (opened_as o).answer).number ≡ first_due (opening_order o)
   pub one_number_recorded : (b : Bench) (c : BenchCall)
-      → number_of b (call_on b.queue c) ≡ first_due (recorded_order (length b.log) b.used (order_of b.queue c) (entry_of b.queue (call_on b.queue c)).changed)
+      → number_of b (call_on b.queue c) ≡ first_due (recorded_order (length b.log) b.used (order_of b.queue c) (changes (entry_of b.queue (call_on b.queue c))))
   -- what is refused is told from what is done by its number
-  pub refusal_is_not0 : ((q : Queue) (c : BenchCall) → NotRefusedWith0 q c) × ((o : Opening) → (opened_as o).answer ≡ Opened.Refused done → ⊥)
+  pub refusal_is_not0 : ((q : Queue) (c : BenchCall) → NotRefusedWith0 q c) × ((o : Opening) (refusal : Refusal) → (opened_as o).answer ≡ Err refusal → refusal_number refusal ≡ done → ⊥)
   pub recorded_refusal_is_not0 : (q : Queue) (log : List ℕ) (used : ℕ) (c : BenchCall) → RecordedNotRefusedWith0 q log used c
   -- nor is a question refused with 0: what it says with 0 has a value
   pub asked_refusal_is_not0 : ((q : Queue) (a : QueueQuestion) → told_to q a ≡ says done [] → ⊥) × ((g : Groups) (id : ℕ) (a : QueueQuestion) → told_by_id g id a ≡ says done [] → ⊥)
       × ((g : Groups) (id : ℕ) → told_says (accepts_in g id) ≡ says done [] → ⊥) × ((g : Groups) (a : RecordQuestion) → told_says (record_told g a) ≡ says done [] → ⊥)
       × ((g : Groups) → len_says (len_of g) ≡ says done [] → ⊥)
   -- 9 has its place in pop's order, and is never given
-  pub never_hollow : (q : Queue) → (popped q).answer ≡ Popped.Refused hollow → ⊥
+  pub never_hollow : (q : Queue) (refusal : Refusal) → (popped q).answer ≡ Err refusal → refusal_number refusal ≡ hollow → ⊥
   pub nothing_changed : (q : Queue) (c : BenchCall) → RefusedAs q (given_to c) (said_by q c) (left_by q c)
   pub blank_opening : (o : Opening) → RefusedAs blank [] (opened_says (opened_as o).answer) (opened_as o).queue
   pub nothing_changed_recorded : (b : Bench) (c : BenchCall) → (number_of b (call_on b.queue c) ≡ done → ⊥) → called b (call_on b.queue c) ≡ b
-  pub given_back_recorded : (q : Queue) (log : List ℕ) (used : ℕ) → ((n refusal given : ℕ) → (register_recorded q n log used).answer ≡ Registered.Refused refusal given → given ≡ n)
-      × ((n refusal given : ℕ) → (land_recorded q n log used).answer ≡ Registered.Refused refusal given → given ≡ n)
-      × ((t : Ticket) (outcome kept refusal given : ℕ) → (complete_recorded q t outcome kept log used).answer ≡ Completed.Refused refusal given → given ≡ kept)
+  pub given_back_recorded : (q : Queue) (log : List ℕ) (used : ℕ) → ((n : ℕ) (refusal : Refusal) (given : ℕ) → (register_recorded q n log used).answer ≡ Err (refusal, given) → given ≡ n)
+      × ((n : ℕ) (refusal : Refusal) (given : ℕ) → (land_recorded q n log used).answer ≡ Err (refusal, given) → given ≡ n)
+      × ((t : Ticket) (outcome kept : ℕ) (refusal : Refusal) (given : ℕ) → (complete_recorded q t outcome kept log used).answer ≡ Err (refusal, given) → given ≡ kept)
   -- a recorded call says, and leaves in the queue, what the plain one does, or it is refused and gives back the number that it was given
   pub recorded_answers : (b : Bench) (c : BenchCall) → ((said_recorded b c).number ≡ number_of b (call_on b.queue c))
       × (number_of b (call_on b.queue c) ≡ done → (said_recorded b c ≡ said_by b.queue c) × ((called b (call_on b.queue c)).queue ≡ left_by b.queue c))
   pub refused_recorded : (b : Bench) (c : BenchCall) → ((said_recorded b c).number ≡ done → ⊥) → (said_recorded b c).values ≡ given_to c
   -- a whole list: 1, of an empty one too; then the number of the separate register of the next one, behind those that were taken
-  pub list_number : (q : Queue) (ns : List ℕ) → (registered_all q ns).answer.refusal ≡ first_due (register_all_order q ns (registered_all q ns).answer.taken)
-  pub list_number_recorded : (b : Bench) (ns : List ℕ) → (list_answer b ns).refusal ≡ first_due (list_order b ns)
-  pub list_unrefused : ((q : Queue) (ns : List ℕ) → ((registered_all q ns).answer.refusal ≡ done) ↔ ((well_formed q ≡ true) × ((registered_all q ns).answer.taken ≡ length ns)))
-      × ((b : Bench) (ns : List ℕ) → ((list_answer b ns).refusal ≡ done) ↔ ((rows_fit (length b.log) b.used ≡ true) × (well_formed b.queue ≡ true) × ((list_answer b ns).taken ≡ length ns)))
+  pub list_number : (q : Queue) (ns : List ℕ) → result_number (registered_all q ns).answer.refusal ≡ first_due (register_all_order q ns (registered_all q ns).answer.taken)
+  pub list_number_recorded : (b : Bench) (ns : List ℕ) → result_number (list_answer b ns).refusal ≡ first_due (list_order b ns)
+  pub list_unrefused : ((q : Queue) (ns : List ℕ) → (result_number (registered_all q ns).answer.refusal ≡ done) ↔ ((well_formed q ≡ true) × ((registered_all q ns).answer.taken ≡ length ns)))
+      × ((b : Bench) (ns : List ℕ) → (result_number (list_answer b ns).refusal ≡ done) ↔ ((rows_fit (length b.log) b.used ≡ true) × (well_formed b.queue ≡ true) × ((list_answer b ns).taken ≡ length ns)))
   -- from that refusal on nothing is taken: what is left is what the separate calls of the first ones leave (of the log demand 3 says so).
   -- The list itself can't change: it is lent to be read. None taken changes nothing
   pub list_keeps : ((q : Queue) (ns : List ℕ) → (registered_all q ns).queue ≡ after_all q (registers_of (take (registered_all q ns).answer.taken ns)))
@@ -129,26 +125,26 @@ pub record Demand1 : Type 0 where
       → (registered_all_in g id ns).groups ≡ groups_after_all g (registers_in id (take (registered_all_in g id ns).answer.taken ns)))
   pub list_none_taken : ((q : Queue) (ns : List ℕ) → (registered_all q ns).answer.taken ≡ 0 → (registered_all q ns).queue ≡ q)
       × ((b : Bench) (ns : List ℕ) → (list_answer b ns).taken ≡ 0 → listed_to b ns ≡ b)
-  pub list_empty : ((q : Queue) → registered_all q [] ≡ took_none q (first_due (broken_only q)))
-      × ((b : Bench) → (list_answer b [] ≡ took_as 0 (first_due (due broken (not (rows_fit (length b.log) b.used)) ∷ broken_only b.queue))) × (listed_to b [] ≡ b))
+  pub list_empty : ((q : Queue) → registered_all q [] ≡ took_none q (first_refusal (broken_only q)))
+      × ((b : Bench) → (list_answer b [] ≡ took_as 0 (first_refusal (due Broken (not (rows_fit (length b.log) b.used)) ∷ broken_only b.queue))) × (listed_to b [] ≡ b))
   -- the reader: 14 where the opening is refused, with place 0 and the blank queue; then 16 exactly if the log does not belong
-  pub one_number_read : (o : Opening) (log : List ℕ) (r : Reading) → ReadsAs o log r
+  pub one_number_read : (o : Opening) (log : List ℕ) (r : Answered Read) → ReadsAs o log r
       → (belongs : Bool) × ((belongs ≡ true) ↔ WordsBelong (setting_of o) log) × ((read_says r.answer).0 ≡ first_due (read_order o belongs))
-  pub blank_read : (o : Opening) (log : List ℕ) (r : Reading) → ReadsAs o log r → (first_due (opening_order o) ≡ done → ⊥)
-      → r ≡ reading (Read.Refused (first_due (opening_order o)) 0) blank
+  pub blank_read : (o : Opening) (log : List ℕ) (r : Answered Read) → ReadsAs o log r → (first_due (opening_order o) ≡ done → ⊥)
+      → (refusal : Refusal) × (refusal_number refusal ≡ first_due (opening_order o)) × (r ≡ reading (Err (refusal, 0)) blank)
   -- the groups: every call, every question, a new record; what a refused one leaves, and what stands beside a refused get
   pub one_number_groups : (g : Groups) (c : GroupCall) → (said_of_groups g c).number ≡ first_due (groups_order g c)
   pub one_number_groups_asked : (g : Groups) (a : GroupQuestion) → (groups_told g a).number ≡ first_due (groups_asked_order g a)
   pub one_number_new : (base : ℕ) → (opened_says (new_of base).answer).number ≡ first_due (new_order base)
-  pub groups_refusal_is_not0 : ((g : Groups) (c : GroupCall) → GroupsNotRefusedWith0 g c) × ((base : ℕ) → (new_of base).answer ≡ Opened.Refused done → ⊥)
-      × ((g : Groups) (id : ℕ) → (got g id).answer ≡ Got.Refused done → ⊥)
+  pub groups_refusal_is_not0 : ((g : Groups) (c : GroupCall) → GroupsNotRefusedWith0 g c) × ((base : ℕ) (refusal : Refusal) → (new_of base).answer ≡ Err refusal → refusal_number refusal ≡ done → ⊥)
+      × ((g : Groups) (id : ℕ) (refusal : Refusal) → (got g id).answer ≡ Err refusal → refusal_number refusal ≡ done → ⊥)
   pub groups_unchanged : (g : Groups) (c : GroupCall) → GroupsRefusedAs g (given_to_groups c) (said_of_groups g c) (groups_after g c)
   -- a whole list of a group: 1, 10, then the queue's; an empty one too
-  pub list_number_groups : (g : Groups) (id : ℕ) (ns : List ℕ) → (registered_all_in g id ns).answer.refusal ≡ first_due (step_order g id (λ q. register_all_order q ns (registered_all q ns).answer.taken))
+  pub list_number_groups : (g : Groups) (id : ℕ) (ns : List ℕ) → result_number (registered_all_in g id ns).answer.refusal ≡ first_due (step_order g id (λ q. register_all_order q ns (registered_all q ns).answer.taken))
   pub list_unrefused_groups : (g : Groups) (id : ℕ) (ns : List ℕ) → SixteenPlaces g
-      → ((registered_all_in g id ns).answer.refusal ≡ done) ↔ ((well_grouped g ≡ true) × IsLive g id × ((registered_all_in g id ns).answer.taken ≡ length ns))
+      → (result_number (registered_all_in g id ns).answer.refusal ≡ done) ↔ ((well_grouped g ≡ true) × IsLive g id × ((registered_all_in g id ns).answer.taken ≡ length ns))
   pub list_none_taken_groups : (g : Groups) (id : ℕ) (ns : List ℕ) → (registered_all_in g id ns).answer.taken ≡ 0 → (registered_all_in g id ns).groups ≡ g
-  pub list_empty_groups : (g : Groups) (id : ℕ) → SixteenPlaces g → registered_all_in g id [] ≡ took_none_in g (first_due (id_order g id))
+  pub list_empty_groups : (g : Groups) (id : ℕ) → SixteenPlaces g → registered_all_in g id [] ≡ took_none_in g (first_refusal (id_order g id))
   pub empty_new : (base : ℕ) → GroupsRefusedAs (empty_of 0) [] (opened_says (new_of base).answer) (new_of base).groups
   pub blank_get : (g : Groups) (id : ℕ) → RefusedAs blank [] (got_says (got g id).answer) (got g id).queue
 
@@ -161,7 +157,7 @@ pub record Demand2 : Type 0 where
   -- a token given: the number stands in its slot, the count rises by 1; nothing else changes, but the phase by a land
   pub birth_stores : (q : Queue) → Sized q → (n : ℕ) → Pushes q n (registered q n) × Pushes q n (landed q n)
   pub birth_leaves : (q : Queue) (n : ℕ) → LeavesSelected q (registered q n).queue × ((registered q n).queue.phase ≡ q.phase) × LeavesSelected q (landed q n).queue
-  pub land_moves : (q : Queue) (n token : ℕ) → (landed q n).answer ≡ Registered.Token token → (is_pending q.phase ≡ true) × ((landed q n).queue.phase ≡ phase_after q.phase Event.Land)
+  pub land_moves : (q : Queue) (n token : ℕ) → (landed q n).answer ≡ Ok token → (is_pending q.phase ≡ true) × ((landed q n).queue.phase ≡ phase_after q.phase Event.Land)
   -- a whole list is the separate registers of its first numbers: each gives the next token
   pub list_tokens : (q : Queue) (ns : List ℕ) → tokens q (registers_of (take (registered_all q ns).answer.taken ns)) ≡ counted_from q.count (registered_all q ns).answer.taken
   pub list_stores : (q : Queue) (ns : List ℕ) → Sized q → PushesAll q ns (registered_all q ns)
@@ -170,20 +166,20 @@ pub record Demand2 : Type 0 where
       × ((b : Bench) (ns : List ℕ) → rows_fit (length b.log) b.used ≡ true → well_formed b.queue ≡ true
       → (list_answer b ns).taken ≡ min (before_zero ns) (min (64 - b.queue.count) (free_rows (length b.log) b.used)))
   -- work handed out: its slot empties, its ticket is selected and issued, next rises by 1 with a fresh ticket; without work nothing changes
-  pub pop_leaves : (q : Queue) (t : Ticket) (number : ℕ) → (popped q).answer ≡ Work t number
-      → ((popped q).queue.slots ≡ set q.slots t.token 0) × ((popped q).queue.selection ≡ Of t) × ((popped q).queue.issued ≡ true) × TakesNext q (popped q).queue
+  pub pop_leaves : (q : Queue) (t : Ticket) (number : ℕ) → (popped q).answer ≡ Ok (Some (t, number))
+      → ((popped q).queue.slots ≡ set q.slots t.token 0) × ((popped q).queue.selection ≡ Some t) × ((popped q).queue.issued ≡ true) × TakesNext q (popped q).queue
   pub pop_stays : (q : Queue) → ((popped q).queue.phase ≡ q.phase) × ((popped q).queue.failed ≡ q.failed) × ((popped q).queue.count ≡ q.count)
   pub pop_nothing : (q : Queue) → hands_out (popped q).answer ≡ false → (popped q).queue ≡ q
   -- a reply is taken in exactly if its ticket is out, and Done keeps nothing: then the slot has the kept number, and failed says the outcome
-  pub settles_exactly : (q : Queue) (t : Ticket) (outcome kept : ℕ) → ((completed q t outcome kept).answer ≡ Completed.Settled)
-      ↔ ((well_formed q ≡ true) × (q.issued ≡ true) × (q.selection ≡ Of t) × (outcome ≤ 1) × (outcome ≡ 0 → kept ≡ 0))
-  pub complete_leaves : (q : Queue) (t : Ticket) (outcome kept : ℕ) → (completed q t outcome kept).answer ≡ Completed.Settled → TakesBack q t outcome kept (completed q t outcome kept).queue
+  pub settles_exactly : (q : Queue) (t : Ticket) (outcome kept : ℕ) → ((completed q t outcome kept).answer ≡ Ok tt)
+      ↔ ((well_formed q ≡ true) × (q.issued ≡ true) × (q.selection ≡ Some t) × (outcome ≤ 1) × (outcome ≡ 0 → kept ≡ 0))
+  pub complete_leaves : (q : Queue) (t : Ticket) (outcome kept : ℕ) → (completed q t outcome kept).answer ≡ Ok tt → TakesBack q t outcome kept (completed q t outcome kept).queue
       × ((completed q t outcome kept).queue.phase ≡ q.phase) × ((completed q t outcome kept).queue.next ≡ q.next)
   -- a ticket is renewed exactly if it has failed, its slot is full and an attempt is left: it takes next, and next rises by 1
-  pub retries_exactly : (q : Queue) → ((t : Ticket) × ((retried q).answer ≡ Retried.Again t))
-      ↔ ((well_formed q ≡ true) × (q.failed ≡ true) × (q.next < no_more) × ((s : Ticket) × (q.selection ≡ Of s) × (slot q s.token ≡ 0 → ⊥)))
-  pub retry_leaves : (q : Queue) (t : Ticket) → (retried q).answer ≡ Retried.Again t
-      → (s : Ticket) × (q.selection ≡ Of s) × (t ≡ record { domain = s.domain; token = s.token; attempt = q.next }) × RenewsTo q t (retried q).queue
+  pub retries_exactly : (q : Queue) → ((t : Ticket) × ((retried q).answer ≡ Ok t))
+      ↔ ((well_formed q ≡ true) × (q.failed ≡ true) × (q.next < no_more) × ((s : Ticket) × (q.selection ≡ Some s) × (slot q s.token ≡ 0 → ⊥)))
+  pub retry_leaves : (q : Queue) (t : Ticket) → (retried q).answer ≡ Ok t
+      → (s : Ticket) × (q.selection ≡ Some s) × (t ≡ record { domain = s.domain; token = s.token; attempt = q.next }) × RenewsTo q t (retried q).queue
   -- R28 to R32, row by row: Idle, Pending, Ended, Stopping, Closed
   pub stage_table : (phase_line Phase.Idle ≡ 1 ∷ 0 ∷ 0 ∷ 4 ∷ 0 ∷ 0 ∷ 0 ∷ []) × (phase_line Phase.Pending ≡ 1 ∷ 0 ∷ 2 ∷ 3 ∷ 1 ∷ 0 ∷ 0 ∷ []) × (phase_line Phase.Ended ≡ 2 ∷ 2 ∷ 2 ∷ 4 ∷ 0 ∷ 1 ∷ 0 ∷ [])
       × (phase_line Phase.Stopping ≡ 3 ∷ 4 ∷ 4 ∷ 3 ∷ 1 ∷ 0 ∷ 1 ∷ []) × (phase_line Phase.Closed ≡ 4 ∷ 4 ∷ 4 ∷ 4 ∷ 0 ∷ 1 ∷ 1 ∷ [])
@@ -195,35 +191,35 @@ pub record Demand2 : Type 0 where
   -- what each call and each question says: the first refusal that is due with what it gives back, or 0 with its own values
   pub calls_say : (q : Queue) (c : BenchCall) → said_by q c ≡ first_said (order_of q c) (given_to c) (own_values q c)
   pub asks_say : (q : Queue) (a : QueueQuestion) → told_to q a ≡ first_said (broken_only q) [] (meant_by q a ∷ [])
-  pub empty_means : (q : Queue) → (is_empty_told q ≡ Yes) ↔ ((well_formed q ≡ true) × (q.selection ≡ Free) × (waiting q ≡ []))
-  pub can_retry_means : (q : Queue) → (can_retry_told q ≡ Yes) ↔ ((t : Ticket) × ((retried q).answer ≡ Retried.Again t))
+  pub empty_means : (q : Queue) → (is_empty_told q ≡ Ok true) ↔ ((well_formed q ≡ true) × (q.selection ≡ None) × (waiting q ≡ []))
+  pub can_retry_means : (q : Queue) → (can_retry_told q ≡ Ok true) ↔ ((t : Ticket) × ((retried q).answer ≡ Ok t))
   -- the cases W1 to W12 that were worked out by hand
   pub marked_cases : definition_says table ≡ paper_says table
   -- pop hands out exactly when something may be handed out, and then the ready ticket or the newest waiting token's
   pub hands_out_exactly : (q : Queue) → hands_out (popped q).answer ≡ may_hand_out q
-  pub hands_out_this : (q : Queue) (t : Ticket) (number : ℕ) → (popped q).answer ≡ Work t number → HandedOut q t number
+  pub hands_out_this : (q : Queue) (t : Ticket) (number : ℕ) → (popped q).answer ≡ Ok (Some (t, number)) → HandedOut q t number
   -- a token waits exactly if its slot is full and it is not the selected one
-  pub waits_exactly : (q : Queue) (k : ℕ) → (member k (waiting q) ≡ true) ↔ ((slot q k ≡ 0 → ⊥) × ((t : Ticket) → q.selection ≡ Of t → t.token ≡ k → ⊥))
+  pub waits_exactly : (q : Queue) (k : ℕ) → (member k (waiting q) ≡ true) ↔ ((slot q k ≡ 0 → ⊥) × ((t : Ticket) → q.selection ≡ Some t → t.token ≡ k → ⊥))
   -- the waiting order: ascending; a birth comes behind all, a fresh ticket takes the last
   pub waiting_rises : (q : Queue) → Rising (waiting q)
   pub birth_waits_last : (q : Queue) → Sized q → (n : ℕ) → Appends q (registered q n) × Appends q (landed q n)
   pub pop_takes_last : (q : Queue) → Drops q (popped q)
   -- and a ready ticket takes none; any other call leaves the list
-  pub ready_keeps_waiting : (q : Queue) (t : Ticket) → q.selection ≡ Of t → waiting (popped q).queue ≡ waiting q
+  pub ready_keeps_waiting : (q : Queue) (t : Ticket) → q.selection ≡ Some t → waiting (popped q).queue ≡ waiting q
   pub others_keep_waiting : (q : Queue) → ((t : Ticket) (outcome kept : ℕ) → waiting (completed q t outcome kept).queue ≡ waiting q) × (waiting (retried q).queue ≡ waiting q)
       × ((matched : Bool) → waiting (admitted q matched).queue ≡ waiting q) × (waiting (ended q).queue ≡ waiting q) × (waiting (cancelled_by q).queue ≡ waiting q)
   -- can_finish, both ways, and one that is not empty
-  pub finish_means : (q : Queue) (target : List ℕ) → (can_finish_told q target ≡ Yes) ↔ Finishable q target
-  pub finish_happens : can_finish_told (iterator_of 0 0 (4 ∷ 9 ∷ [])) (9 ∷ 4 ∷ 9 ∷ []) ≡ Yes
+  pub finish_means : (q : Queue) (target : List ℕ) → (can_finish_told q target ≡ Ok true) ↔ Finishable q target
+  pub finish_happens : can_finish_told (iterator_of 0 0 (4 ∷ 9 ∷ [])) (9 ∷ 4 ∷ 9 ∷ []) ≡ Ok true
   -- what an opening leaves, every part
-  pub opened_as_given : (o : Opening) → (opened_as o).answer ≡ Opened.Open → OpenedParts o (opened_as o).queue
+  pub opened_as_given : (o : Opening) → (opened_as o).answer ≡ Ok tt → OpenedParts o (opened_as o).queue
   -- the blank queue is the scope of domain 0 and first attempt 0, and its test says yes to no other
   pub blank_means : (blank ≡ scope_of 0 0) × ((q : Queue) → Sized q → (is_blank q ≡ true) ↔ (q ≡ blank))
   -- from it on, whatever is called: well formed, attempts first, plus 1, plus 2, and tokens 0 to 63
   pub stays_sound : (o : Opening) (cs : List Call) → well_formed (after_all (opened_as o).queue cs) ≡ true
-  pub attempts_exactly : (o : Opening) → (opened_as o).answer ≡ Opened.Open → o.heading.first ≤ no_more → (cs : List Call)
+  pub attempts_exactly : (o : Opening) → (opened_as o).answer ≡ Ok tt → o.heading.first ≤ no_more → (cs : List Call)
       → Counts o.heading.first no_more (attempts (opened_as o).queue cs)
-  pub tokens_exactly : (o : Opening) → (opened_as o).answer ≡ Opened.Open → (cs : List Call) → Counts 0 64 (tokens (opened_as o).queue cs)
+  pub tokens_exactly : (o : Opening) → (opened_as o).answer ≡ Ok tt → (cs : List Call) → Counts 0 64 (tokens (opened_as o).queue cs)
   -- and from any other well-formed queue on
   pub sound_queue_stays : (q : Queue) (cs : List Call) → well_formed q ≡ true → well_formed (after_all q cs) ≡ true
   -- the groups. A call on a live id says what the queue's own call says, and that place alone has the queue that it leaves
@@ -231,7 +227,7 @@ pub record Demand2 : Type 0 where
       × (groups_after g (by_id (id_at g i) c) ≡ with_queue g i (left_by (queue_at g i) c))
   pub group_asked_as_queue : (g : Groups) (i : ℕ) → LiveGroup g i → (a : QueueQuestion) → told_by_id g (id_at g i) a ≡ told_to (queue_at g i) a
   pub accepts_means : (g : Groups) (i : ℕ) → LiveGroup g i → accepts_in g (id_at g i) ≡ yes_or_no (not (is_cancelled (queue_at g i).phase))
-  pub get_gives : (g : Groups) (i : ℕ) → LiveGroup g i → got g (id_at g i) ≡ record { answer = Got.Group; queue = queue_at g i }
+  pub get_gives : (g : Groups) (i : ℕ) → LiveGroup g i → got g (id_at g i) ≡ record { answer = Ok tt; queue = queue_at g i }
   -- on any other id it says 10
   pub no_such_group : (g : Groups) (id : ℕ) → SixteenPlaces g → well_grouped g ≡ true → (IsLive g id → ⊥)
       → ((c : BenchCall) → (said_of_groups g (by_id id c)).number ≡ no_group) × ((said_of_groups g (GroupCall.remove id)).number ≡ no_group) × ((a : QueueQuestion) → (told_by_id g id a).number ≡ no_group)
@@ -239,61 +235,61 @@ pub record Demand2 : Type 0 where
   -- a whole list of a live id is the queue's, in that place alone; on any other id none is taken
   pub list_of_group : (g : Groups) (i : ℕ) → LiveGroup g i → (ns : List ℕ) → registered_all_in g (id_at g i) ns
       ≡ record { answer = (registered_all (queue_at g i) ns).answer; groups = with_queue g i (registered_all (queue_at g i) ns).queue }
-  pub list_of_no_group : (g : Groups) (id : ℕ) (ns : List ℕ) → SixteenPlaces g → (well_grouped g ≡ false → registered_all_in g id ns ≡ took_none_in g broken)
-      × (well_grouped g ≡ true → (IsLive g id → ⊥) → registered_all_in g id ns ≡ took_none_in g no_group)
+  pub list_of_no_group : (g : Groups) (id : ℕ) (ns : List ℕ) → SixteenPlaces g → (well_grouped g ≡ false → registered_all_in g id ns ≡ took_none_in g (Some Broken))
+      × (well_grouped g ≡ true → (IsLive g id → ⊥) → registered_all_in g id ns ≡ took_none_in g (Some NoGroup))
   -- a live group that a call is not for keeps its whole place
   pub other_groups_stay : (g : Groups) → SixteenPlaces g → (c : GroupCall) (j : ℕ) → LiveAt g j → is_for c (id_at g j) ≡ false → place_at (groups_after g c) j ≡ place_at g j
   -- the check says yes to exactly the sound records; a new one has the root alone; from it on, whatever is called, it is sound
   pub check_means_sound : (g : Groups) → SixteenPlaces g → (well_grouped g ≡ true) ↔ Sound g
-  pub new_has_root : (base : ℕ) → base ≤ last_base → new_of base ≡ record { answer = Opened.Open; groups = with_opened (empty_of base) 0 (scope_of base 0) }
+  pub new_has_root : (base : ℕ) → base ≤ last_base → new_of base ≡ record { answer = Ok tt; groups = with_opened (empty_of base) 0 (scope_of base 0) }
   pub groups_stay_sound : (base : ℕ) (cs : List GroupCall) → (well_grouped (groups_after_all (new_of base).groups cs) ≡ true) × SixteenPlaces (groups_after_all (new_of base).groups cs)
   -- and from any other sound record on
   pub sound_groups_stay : (g : Groups) (cs : List GroupCall) → SixteenPlaces g → well_grouped g ≡ true → (well_grouped (groups_after_all g cs) ≡ true) × SixteenPlaces (groups_after_all g cs)
   -- an opening is done exactly if there is room for it; it gave the next id, and put a fresh queue into the lowest free place and nowhere else
-  pub opens_exactly : (g : Groups) → SixteenPlaces g → (((n : ℕ) × ((added_scope g).answer ≡ Added.Id n)) ↔ RoomToOpen g)
-      × ((bindings : List ℕ) → ((n : ℕ) × ((added_iterator g bindings).answer ≡ Added.Id n)) ↔ ((length bindings ≤ 16) × RoomToOpen g))
-  pub opened_group : (g : Groups) → SixteenPlaces g → (n : ℕ) → ((added_scope g).answer ≡ Added.Id n → AddedAs g n (scope_of (next_domain g) 0) (added_scope g).groups)
-      × ((bindings : List ℕ) → (added_iterator g bindings).answer ≡ Added.Id n → AddedAs g n (iterator_of (next_domain g) 0 bindings) (added_iterator g bindings).groups)
+  pub opens_exactly : (g : Groups) → SixteenPlaces g → (((n : ℕ) × ((added_scope g).answer ≡ Ok n)) ↔ RoomToOpen g)
+      × ((bindings : List ℕ) → ((n : ℕ) × ((added_iterator g bindings).answer ≡ Ok n)) ↔ ((length bindings ≤ 16) × RoomToOpen g))
+  pub opened_group : (g : Groups) → SixteenPlaces g → (n : ℕ) → ((added_scope g).answer ≡ Ok n → AddedAs g n (scope_of (next_domain g) 0) (added_scope g).groups)
+      × ((bindings : List ℕ) → (added_iterator g bindings).answer ≡ Ok n → AddedAs g n (iterator_of (next_domain g) 0 bindings) (added_iterator g bindings).groups)
   -- ids: one that was given and is not live never is again, that of a closed group too; live groups have domains of their own
   pub gone_for_good : (g : Groups) (cs : List GroupCall) (id : ℕ) → SixteenPlaces g → id < g.next → (IsLive g id → ⊥) → IsLive (groups_after_all g cs) id → ⊥
-  pub closed_for_good : (g : Groups) (id : ℕ) (cs : List GroupCall) → SixteenPlaces g → (removed g id).answer ≡ Closed.Done → IsLive (groups_after_all (removed g id).groups cs) id → ⊥
+  pub closed_for_good : (g : Groups) (id : ℕ) (cs : List GroupCall) → SixteenPlaces g → (removed g id).answer ≡ Ok tt → IsLive (groups_after_all (removed g id).groups cs) id → ⊥
   pub domains_differ : (g : Groups) (i j : ℕ) → LiveGroup g i → LiveGroup g j → (queue_at g i).domain ≡ (queue_at g j).domain → i ≡ j
   -- close is done exactly if the id is live and nothing is left in its queue, and frees that place alone
-  pub closes_exactly : (g : Groups) (id : ℕ) → SixteenPlaces g → ((removed g id).answer ≡ Closed.Done) ↔ ((i : ℕ) × LiveGroup g i × (id_at g i ≡ id) × DrainedQueue (queue_at g i))
-  pub close_frees : (g : Groups) (i : ℕ) → LiveGroup g i → (removed g (id_at g i)).answer ≡ Closed.Done → (removed g (id_at g i)).groups ≡ with_place g i free_place
+  pub closes_exactly : (g : Groups) (id : ℕ) → SixteenPlaces g → ((removed g id).answer ≡ Ok tt) ↔ ((i : ℕ) × LiveGroup g i × (id_at g i ≡ id) × DrainedQueue (queue_at g i))
+  pub close_frees : (g : Groups) (i : ℕ) → LiveGroup g i → (removed g (id_at g i)).answer ≡ Ok tt → (removed g (id_at g i)).groups ≡ with_place g i free_place
   -- seal is done exactly if nothing is left in any group, and then none is live any more, whatever is called
-  pub seals_exactly : (g : Groups) → SixteenPlaces g → ((sealed_in g).answer ≡ Closed.Done)
+  pub seals_exactly : (g : Groups) → SixteenPlaces g → ((sealed_in g).answer ≡ Ok tt)
       ↔ ((well_grouped g ≡ true) × (g.sealed ≡ false) × ((i : ℕ) → i < 16 → LiveAt g i → DrainedQueue (queue_at g i)))
-  pub seal_leaves : (g : Groups) → SixteenPlaces g → (sealed_in g).answer ≡ Closed.Done → (sealed_in g).groups ≡ record { base = g.base; next = g.next; sealed = true; places = replicate 16 free_place }
-  pub sealed_for_good : (g : Groups) → SixteenPlaces g → (sealed_in g).answer ≡ Closed.Done → (cs : List GroupCall) (id : ℕ) → IsLive (groups_after_all (sealed_in g).groups cs) id → ⊥
+  pub seal_leaves : (g : Groups) → SixteenPlaces g → (sealed_in g).answer ≡ Ok tt → (sealed_in g).groups ≡ record { base = g.base; next = g.next; sealed = true; places = replicate 16 free_place }
+  pub sealed_for_good : (g : Groups) → SixteenPlaces g → (sealed_in g).answer ≡ Ok tt → (cs : List GroupCall) (id : ℕ) → IsLive (groups_after_all (sealed_in g).groups cs) id → ⊥
   -- retry_all: yes exactly if can_retry_all says so, and else it changes nothing
-  pub round_exactly : (g : Groups) → ((retried_all g).answer ≡ Yes) ↔ (can_retry_all_of g ≡ Yes)
-  pub round_else_nothing : (g : Groups) → ((retried_all g).answer ≡ Yes → ⊥) → (retried_all g).groups ≡ g
+  pub round_exactly : (g : Groups) → ((retried_all g).answer ≡ Ok true) ↔ (can_retry_all_of g ≡ Ok true)
+  pub round_else_nothing : (g : Groups) → ((retried_all g).answer ≡ Ok true → ⊥) → (retried_all g).groups ≡ g
   -- each failed group is retried as a queue, and gets a new ticket; one that had not failed keeps its whole place
-  pub round_retries : (g : Groups) (i : ℕ) → LiveGroup g i → (retried_all g).answer ≡ Yes → (queue_at g i).failed ≡ true
-      → (queue_at (retried_all g).groups i ≡ (retried (queue_at g i)).queue) × ((t : Ticket) × ((retried (queue_at g i)).answer ≡ Retried.Again t))
+  pub round_retries : (g : Groups) (i : ℕ) → LiveGroup g i → (retried_all g).answer ≡ Ok true → (queue_at g i).failed ≡ true
+      → (queue_at (retried_all g).groups i ≡ (retried (queue_at g i)).queue) × ((t : Ticket) × ((retried (queue_at g i)).answer ≡ Ok t))
   pub round_keeps : (g : Groups) (i : ℕ) → (queue_at g i).failed ≡ false → place_at (retried_all g).groups i ≡ place_at g i
   -- and what groups there are stays; it does say yes, here of a record whose root has failed
   pub round_frame : (g : Groups) → Frame g (retried_all g).groups
-  pub round_happens : (retried_all (groups_after_all (new_of 0).groups (GroupCall.register 0 72 ∷ GroupCall.pop 0 ∷ GroupCall.complete 0 (record { domain = 0; token = 0; attempt = 0 }) 1 72 ∷ []))).answer ≡ Yes
+  pub round_happens : (retried_all (groups_after_all (new_of 0).groups (GroupCall.register 0 72 ∷ GroupCall.pop 0 ∷ GroupCall.complete 0 (record { domain = 0; token = 0; attempt = 0 }) 1 72 ∷ []))).answer ≡ Ok true
   -- what a yes means, and how many are live: none, and 1 more with an opening, 1 less with a closing
-  pub yes_means : (g : Groups) → SixteenPlaces g → (a : RecordQuestion) → (record_told g a ≡ Yes) ↔ ((well_grouped g ≡ true) × YesMeans g a)
+  pub yes_means : (g : Groups) → SixteenPlaces g → (a : RecordQuestion) → (record_told g a ≡ Ok true) ↔ ((well_grouped g ≡ true) × YesMeans g a)
   pub len_tells : (g : Groups) → well_grouped g ≡ true → len_says (len_of g) ≡ says done (live_count g.places ∷ [])
   pub len_counts : (g : Groups) → SixteenPlaces g → ((live_count g.places ≡ 0) ↔ ((i : ℕ) → i < 16 → (place_at g i).live ≡ false))
-      × ((n : ℕ) → (added_scope g).answer ≡ Added.Id n → live_count (added_scope g).groups.places ≡ live_count g.places + 1)
-      × ((bindings : List ℕ) (n : ℕ) → (added_iterator g bindings).answer ≡ Added.Id n → live_count (added_iterator g bindings).groups.places ≡ live_count g.places + 1)
-      × ((id : ℕ) → (removed g id).answer ≡ Closed.Done → live_count (removed g id).groups.places + 1 ≡ live_count g.places)
+      × ((n : ℕ) → (added_scope g).answer ≡ Ok n → live_count (added_scope g).groups.places ≡ live_count g.places + 1)
+      × ((bindings : List ℕ) (n : ℕ) → (added_iterator g bindings).answer ≡ Ok n → live_count (added_iterator g bindings).groups.places ≡ live_count g.places + 1)
+      × ((id : ℕ) → (removed g id).answer ≡ Ok tt → live_count (removed g id).groups.places + 1 ≡ live_count g.places)
 
 -- ---- demand 3: a log names each change; the reader accepts exactly the logs that recorded calls can leave, and finds what they leave
 pub record Demand3 : Type 0 where
   -- a call writes its row exactly if it changes the queue
-  pub rows_name_changes : (q : Queue) (c : Call) → ((entry_of q c).changed ≡ false → after q c ≡ q) × ((entry_of q c).changed ≡ true → after q c ≡ q → ⊥)
+  pub rows_name_changes : (q : Queue) (c : Call) → (changes (entry_of q c) ≡ false → after q c ≡ q) × (changes (entry_of q c) ≡ true → after q c ≡ q → ⊥)
   -- one that does not, accepted, leaves record, used count and log
-  pub quiet_call : (b : Bench) (c : Call) → number_of b c ≡ done → (entry_of b.queue c).changed ≡ false → called b c ≡ b
+  pub quiet_call : (b : Bench) (c : Call) → number_of b c ≡ done → changes (entry_of b.queue c) ≡ false → called b c ≡ b
   -- one that does, with room, is accepted, and its row stands behind the used ones
   pub row_is_written : (b : Bench) (c : Call) → rows_fit (length b.log) b.used ≡ true → has_room (length b.log) b.used ≡ true
-      → (entry_of b.queue c).refusal ≡ done → (entry_of b.queue c).changed ≡ true
-      → (number_of b c ≡ done) × (called b c ≡ bench (after b.queue c) (b.used + 1) (written b.log b.used (flat (entry_of b.queue c).row)))
+      → changes (entry_of b.queue c) ≡ true
+      → (number_of b c ≡ done) × ((row : Row) × (entry_of b.queue c ≡ Ok (Some row)) × (called b c ≡ bench (after b.queue c) (b.used + 1) (written b.log b.used (flat row))))
   -- a whole list counts as the separate recorded calls that were taken, each accepted, a row each
   pub list_is_recorded : (b : Bench) (ns : List ℕ) → Made b (registers_of (take (list_answer b ns).taken ns)) (listed_to b ns)
   pub list_rows : (b : Bench) (ns : List ℕ) → (listed_to b ns).used ≡ b.used + (list_answer b ns).taken
@@ -302,14 +298,14 @@ pub record Demand3 : Type 0 where
   pub same_logs : (o : Opening) (memory log : List ℕ) → LeftListed o memory log ↔ LeftIn o memory log
   -- the reader has a right answer for every log, accepts a log exactly when it belongs, and one answer is right
   pub every_log_read : (o : Opening) (log : List ℕ) → ReadsAs o log (read_from (opened_as o) log)
-  pub reader_accepts : (o : Opening) (log : List ℕ) (r : Reading) → ReadsAs o log r → ((read_says r.answer).0 ≡ done) ↔ InLanguage o log
-  pub one_reading : (o : Opening) (log : List ℕ) (r s : Reading) → ReadsAs o log r → ReadsAs o log s → r ≡ s
+  pub reader_accepts : (o : Opening) (log : List ℕ) (r : Answered Read) → ReadsAs o log r → ((read_says r.answer).0 ≡ done) ↔ InLanguage o log
+  pub one_reading : (o : Opening) (log : List ℕ) (r s : Answered Read) → ReadsAs o log r → ReadsAs o log s → r ≡ s
   -- recorded histories and the language are one set: of words, by calls of words, whole rows, in any memory with room
   pub one_set : (o : Opening) → WordOpening o → (memory log : List ℕ) → length log ≤ length memory
       → LeftIn o memory log ↔ (WordsBelong (setting_of o) log × (every is_word log ≡ true))
   -- the reader's end state is the one that the calls leave, and before a bad row the one that the calls before it leave
-  pub end_state : (s : Start) (b : Bench) → ListedHistory s b → (r : Reading) → ReadsAs s.opening (words_written b) r → r ≡ reading (Read.Good b.used) b.queue
-  pub state_before : (s : Start) (b : Bench) → ListedHistory s b → (log : List ℕ) (r : Reading) → ReadsAs s.opening log r
+  pub end_state : (s : Start) (b : Bench) → ListedHistory s b → (r : Answered Read) → ReadsAs s.opening (words_written b) r → r ≡ reading (Ok b.used) b.queue
+  pub state_before : (s : Start) (b : Bench) → ListedHistory s b → (log : List ℕ) (r : Answered Read) → ReadsAs s.opening log r
       → (read_says r.answer).0 ≡ bad_log → rows_of b ≡ take (read_says r.answer).1 (rows log) → r.queue ≡ b.queue
   pub one_state : (s t : Start) (a b : Bench) → opened_queue s ≡ opened_queue t → ListedHistory s a → ListedHistory t b → rows_of a ≡ rows_of b → a.queue ≡ b.queue
 

@@ -11,13 +11,10 @@ use std::io::{Read, Write};
 fn digit(byte: u8) -> usize
     ensures { result ≤ 9 }
 {
-    if byte < b'0' {
-        return 0;
+    match byte {
+        b'0'..=b'9' => (byte - b'0') as usize,
+        _ => 0,
     }
-    if byte > b'9' {
-        return 0;
-    }
-    (byte - b'0') as usize
 }
 
 fn four_digits(a: u8, b: u8, c: u8, d: u8) -> usize

@@ -1,46 +1,45 @@
--- The walk over the places: one step, a hit, and the end
-use Prim.Native.Nat.{ℕ, suc, ◌+◌, ◌<◌, ◌≤◌}
-use mathlib.Core.Path.{◌≡◌, refl, sym, ap, ◌∙◌}
-use mathlib.Core.Bool.{Bool, true, false}
+-- The walk over the places: whether it finds something, and the library's walks by the definition
+use Prim.Native.Nat.{ℕ, suc, ◌+◌}
+use mathlib.Core.Path.{◌≡◌, refl, ◌∙◌}
+use mathlib.Core.Bool.{Bool, true, false, cond, ◌||◌}
 use mathlib.Core.List.{List, [], ◌∷◌}
-use native.Mathlib.Omega.{arith}
 use native.Mathlib.Numerals.{add-one}
-use lib.ListN.{length, get_or, drop, drop_of_length-le}
-use lib.Seq.{drop-cons}
 use Rattle.choice.specs.Choice.{when◌then◌else◌}
-use Rattle.choice.proofs.Ways.{hit, miss}
 use Rattle.queue_record.specs.Newest.{is_there}
-use Rattle.queue_record.specs.declared.search.Found.TheVariants.{At, Missing}
-use Rattle.group_record.specs.Record.{nowhere}
 use Rattle.group_asking.specs.Scan.{first_from}
 use Rattle.group_record.specs.declared.record.Place.{Place}
+use Rattle.std.specs.Prelude.{Option, Some, None, is_some}
+use Rattle.std.specs.List.{position, position_from, list_any}
+use Rattle.std.proofs.lemmas.Iterator.Adapters.{position_from-zero}
 
--- the places from i on, apart
-pub place_left : (ps : List Place) (i : ℕ) → length ps ≡ 16 → i < 16 → drop i ps ≡ get_or ps i nowhere ∷ drop (i + 1) ps
-place_left ps i l h = rw (drop-cons ps i nowhere (omega arith), add-one)
+-- something was found, in the library's word
+pub there_is : (f : Option ℕ) → is_there f ≡ is_some f
+there_is (Some i) = refl
+there_is None = refl
 
-pub places_end : (ps : List Place) (i : ℕ) → length ps ≡ 16 → 16 ≤ i → drop i ps ≡ []
-places_end ps i l h = drop_of_length-le ps {i = i} (omega arith)
+module _ (says : Place → Bool) where
+  first_at : (k : ℕ) (ps : List Place) → position_from says k ps ≡ first_from says k ps
+  first_at k [] = refl
+  first_at k (p ∷ ps) = go (says p) (first_at (suc k) ps)
+    where
+      go : (b : Bool) → position_from says (suc k) ps ≡ first_from says (suc k) ps
+          → cond b (Some k) (position_from says (k + 1) ps) ≡ (when b then Some k else first_from says (suc k) ps)
+      go true f = refl
+      go false f = rw (add-one k, f)
 
-module _ (says : Place → Bool) (ps : List Place) (i : ℕ) (l : length ps ≡ 16) where
-  first_step : i < 16 → first_from says i (drop i ps) ≡ (when says (get_or ps i nowhere) then At i else first_from says (i + 1) (drop (i + 1) ps))
-  first_step h = ap (first_from says i) (place_left ps i l h) ∙ ap (λ (k : ℕ). when says (get_or ps i nowhere) then At i else first_from says k (drop (i + 1) ps)) (sym (add-one i))
+  -- the library's `position`
+  pub first_it : (ps : List Place) → position says ps ≡ first_from says 0 ps
+  first_it ps = position_from-zero says ps ∙ first_at 0 ps
 
-  pub first_here : i < 16 → says (get_or ps i nowhere) ≡ true → At i ≡ first_from says i (drop i ps)
-  first_here h e = sym (first_step h ∙ hit _ e)
+  some_at : (k : ℕ) (ps : List Place) → list_any says ps ≡ is_there (first_from says k ps)
+  some_at k [] = refl
+  some_at k (p ∷ ps) = go (says p) (some_at (suc k) ps)
+    where
+      go : (b : Bool) → list_any says ps ≡ is_there (first_from says (suc k) ps)
+          → (b || list_any says ps) ≡ is_there (when b then Some k else first_from says (suc k) ps)
+      go true f = refl
+      go false f = f
 
-  pub first_past : i < 16 → says (get_or ps i nowhere) ≡ false → first_from says (i + 1) (drop (i + 1) ps) ≡ first_from says i (drop i ps)
-  first_past h e = sym (first_step h ∙ miss _ e)
-
-  pub first_end : 16 ≤ i → Missing ≡ first_from says i (drop i ps)
-  first_end h = sym (ap (first_from says i) (places_end ps i l h))
-
--- whether something is found does not depend on how the places are counted
-pub there_from : (says : Place → Bool) (j k : ℕ) (ps : List Place) → is_there (first_from says j ps) ≡ is_there (first_from says k ps)
-there_from says j k [] = refl
-there_from says j k (p ∷ ps) = go (says p) (there_from says (suc j) (suc k) ps)
-  where
-    go : (b : Bool) → is_there (first_from says (suc j) ps) ≡ is_there (first_from says (suc k) ps)
-        → is_there (when b then At j else first_from says (suc j) ps) ≡ is_there (when b then At k else first_from says (suc k) ps)
-    go true e = refl
-    go false e = e
+  -- and its `any`
+  pub some_it : (ps : List Place) → list_any says ps ≡ is_there (first_from says 0 ps)
+  some_it ps = some_at 0 ps

@@ -1,21 +1,18 @@
 -- What can be asked of one place: a line for each question
-use Rattle.std.specs.Prelude.{ℕ, ◌+◌, Bool, true, false, not, ◌&&◌, ◌||◌, List, eqb, leb}
+use Rattle.std.specs.Prelude.{ℕ, ◌+◌, Bool, true, false, not, ◌&&◌, ◌||◌, List, eqb, leb, Ok, Err}
 use Rattle.choice.specs.Choice.{when◌then◌else◌}
 use Rattle.stage.specs.Phases.{is_pending, is_settled}
 use Rattle.queue_record.specs.WellFormed.{well_formed}
 use Rattle.queue_record.specs.Blank.{is_blank}
 use Rattle.queue_record.specs.declared.record.Queue.{Queue}
 use Rattle.queue_questions.specs.Questions.{is_empty_told, can_retry_told, can_finish_told}
-use Rattle.queue_questions.specs.declared.questions.Told.{Told}
-use Rattle.queue_questions.specs.declared.questions.Told.TheVariants.{Yes, No, Refused}
 use Rattle.group_record.specs.declared.record.Place.{Place}
-use Rattle.group_asking.specs.declared.questions.Question.{Question}
-use Rattle.group_asking.specs.declared.questions.Question.TheVariants.{Free, Littered, Live, Holds, PastNext, Foreign, Pending, Issued, Failed, Stuck, Unfinished, Undrained}
+use Rattle.group_asking.specs.Question.{Question, Free, Littered, Live, HoldsId, PastNext, Foreign, Pending, Issued, Failed, Stuck, Unfinished, Undrained}
+use Rattle.queue_questions.specs.Types.{Told}
 
 abbrev pub is_yes : Told → Bool
-is_yes Yes = true
-is_yes No = false
-is_yes (Refused n) = false
+is_yes (Ok answer) = answer
+is_yes (Err n) = false
 
 -- R98, R104: of a live place: its queue is well formed, and its domain is base and id added
 abbrev pub belongs_to : ℕ → ℕ → Queue → Bool
@@ -42,7 +39,7 @@ abbrev pub asks_live : Question → ℕ → Queue → List ℕ → Bool
 asks_live Free id q target = false
 asks_live Littered id q target = false
 asks_live Live id q target = true
-asks_live (Holds other) id q target = eqb id other
+asks_live (HoldsId other) id q target = eqb id other
 asks_live (PastNext next) id q target = leb next id
 asks_live (Foreign base) id q target = not (belongs_to base id q)
 asks_live Pending id q target = is_pending q.phase
@@ -57,7 +54,7 @@ abbrev pub asks_free : Question → ℕ → Queue → Bool
 asks_free Free id q = true
 asks_free Littered id q = littered id q
 asks_free Live id q = false
-asks_free (Holds other) id q = false
+asks_free (HoldsId other) id q = false
 asks_free (PastNext next) id q = false
 asks_free (Foreign base) id q = false
 asks_free Pending id q = false

@@ -1,3 +1,4 @@
+pub mod Types
 pub mod WellFormed
 pub mod Ids
 pub mod Count

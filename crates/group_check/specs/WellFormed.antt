@@ -7,7 +7,7 @@ use Rattle.group_asking.specs.Questions.{asks_of}
 use Rattle.group_asking.specs.Scan.{first_from, some_yes}
 use Rattle.group_record.specs.declared.record.Place.{Place}
 use Rattle.group_record.specs.declared.record.Groups.{Groups}
-use Rattle.group_asking.specs.declared.questions.Question.TheVariants.{Littered, Live, Holds, PastNext, Foreign}
+use Rattle.group_asking.specs.Question.{Littered, Live, HoldsId, PastNext, Foreign}
 
 -- R99: the largest base to which the id 65,535 can be added, with one number to spare
 abbrev pub last_base : ℕ
@@ -27,7 +27,7 @@ next_fits next = leb next ids
 
 -- one of these places is live under the id of the live place p
 abbrev pub clashes : Place → List Place → Bool
-clashes p ps = p.live && is_there (first_from (asks_of (Holds p.id) []) 0 ps)
+clashes p ps = p.live && is_there (first_from (asks_of (HoldsId p.id) []) 0 ps)
 
 -- R103: no two live places have one id
 abbrev pub distinct_ids : List Place → Bool

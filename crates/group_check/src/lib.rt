@@ -5,6 +5,6 @@ mod check;
 mod ids;
 mod tally;
 
-pub use check::{IDS, LAST_BASE, well_grouped};
-pub use ids::{GetAnswer, Got, Spot, get, look_up, lowest, queue_at};
+pub use check::{IDS, LAST_BASE, sound, well_grouped};
+pub use ids::{Got, Spot, get, look_up, queue_at};
 pub use tally::live_count;

@@ -2,70 +2,56 @@
 ghost use Rattle.std.specs.Prelude.{◌≡◌};
 ghost use Rattle.group_endings.specs.Endings.{refused_close, removed, sealed_in};
 
-use group_asking::{Question, is_drained, some};
-use group_check::{Spot, look_up, queue_at};
+use group_asking::{is_drained, some_undrained};
+use group_check::{look_up, queue_at};
 use group_openings::is_unsealed;
-use group_record::{Groups, free_place, put_place, sealed_of};
-use queue_record::Opened;
-use queue_record::refusal::NOT_DRAINED;
+use group_record::{Groups, GroupsAnswered, free_place, put_place, sealed_of};
+use queue_record::Refusal;
 
-#[derive(Clone, Copy)]
-pub enum Closed {
-    Done,
-    Refused(u64),
-}
+pub type Closed = Result<(), Refusal>;
 
-#[derive(Clone, Copy)]
-pub struct CloseAnswer {
-    pub answer: Closed,
-    pub groups: Groups,
-}
-
-fn close_refused(g: Groups, refusal: u64) -> CloseAnswer
+fn close_refused(g: Groups, refusal: Refusal) -> GroupsAnswered<Closed>
     ensures { result ≡ refused_close g refusal }
 {
-    CloseAnswer {
-        answer: Closed::Refused(refusal),
+    GroupsAnswered {
+        answer: Err(refusal),
         groups: g,
     }
 }
 
 // Closes a group; its place is free again.
-pub fn remove(g: Groups, id: u64) -> CloseAnswer
+#[tactic(auto, using(group_check::proofs::Spots::spot_below), unfolding(crate::specs::Endings::removed))]
+pub fn remove(g: Groups, id: u64) -> GroupsAnswered<Closed>
     ensures { result ≡ removed g id }
 {
-    let spot = look_up(g, id);
-    match spot {
-        Spot::Refused(refusal) => close_refused(g, refusal),
-        Spot::At(at) => {
+    match look_up(g, id) {
+        Err(refusal) => close_refused(g, refusal),
+        Ok(at) => {
             if !is_drained(queue_at(g, at)) {
-                return close_refused(g, NOT_DRAINED);
+                return close_refused(g, Refusal::NotDrained);
             }
-            let place = free_place();
-            let groups = put_place(g, at, place);
-            CloseAnswer {
-                answer: Closed::Done,
-                groups: groups,
+            GroupsAnswered {
+                answer: Ok(()),
+                groups: put_place(g, at, free_place()),
             }
         }
     }
 }
 
 // Drops all groups and lets none be opened again.
-pub fn seal(g: Groups) -> CloseAnswer
+#[tactic(auto, unfolding(crate::specs::Endings::sealed_in))]
+pub fn seal(g: Groups) -> GroupsAnswered<Closed>
     ensures { result ≡ sealed_in g }
 {
-    let gate = is_unsealed(g);
-    match gate {
-        Opened::Refused(refusal) => close_refused(g, refusal),
-        Opened::Open => {
-            if some(g, Question::Undrained) {
-                return close_refused(g, NOT_DRAINED);
+    match is_unsealed(g) {
+        Err(refusal) => close_refused(g, refusal),
+        Ok(()) => {
+            if some_undrained(g) {
+                return close_refused(g, Refusal::NotDrained);
             }
-            let groups = sealed_of(g);
-            CloseAnswer {
-                answer: Closed::Done,
-                groups: groups,
+            GroupsAnswered {
+                answer: Ok(()),
+                groups: sealed_of(g),
             }
         }
     }

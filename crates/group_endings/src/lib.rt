@@ -3,4 +3,4 @@
 
 mod endings;
 
-pub use endings::{CloseAnswer, Closed, remove, seal};
+pub use endings::{Closed, remove, seal};

@@ -9,50 +9,51 @@ use lib.Dec.{leb}
 use lib.ListN.{length}
 use Rattle.choice.specs.Choice.{when◌then◌else◌}
 use Rattle.choice.proofs.Ways.{miss}
-use Rattle.queue_record.specs.Refusals.{broken, sealed, no_id}
-use Rattle.queue_record.specs.declared.search.Found.{Found}
-use Rattle.queue_record.specs.declared.search.Found.TheVariants.{At, Missing}
-use Rattle.queue_record.specs.declared.openings.Opened.{Opened}
-use Rattle.queue_record.specs.declared.openings.Opened.TheVariants.{Open}
+use Rattle.queue_record.specs.declared.refusal.Refusal.TheVariants.{Broken, Sealed, NoId}
 use Rattle.group_record.specs.Record.{empty_of}
 use Rattle.group_asking.specs.Scan.{first_yes}
 use Rattle.group_check.specs.WellFormed.{ids, well_grouped}
 use Rattle.group_record.specs.declared.record.Groups.{Groups}
-use Rattle.group_asking.specs.declared.questions.Question.TheVariants.{Free}
-use Rattle.group_check.specs.declared.ids.Spot.{Spot}
+use Rattle.group_asking.specs.Question.{Free}
 use Rattle.group_check.proofs.Fit.{Fit, fit}
 use Rattle.group_check.proofs.Spots.{first_below}
 use Rattle.group_openings.specs.Openings.{unsealed, room_at, room_of}
+use Rattle.std.specs.Prelude.{Option, Some, None, Ok, Err}
+use Rattle.queue_record.specs.Types.{Opened}
 
-pub unsealed_means : (g : Groups) → unsealed g ≡ Open → (well_grouped g ≡ true) × (g.sealed ≡ false)
+-- by the two tests
+abbrev gate : Bool → Bool → Opened
+gate w s = when not w then Err Broken else when s then Err Sealed else Ok tt
+
+pub unsealed_means : (g : Groups) → unsealed g ≡ Ok tt → (well_grouped g ≡ true) × (g.sealed ≡ false)
 unsealed_means g e = go (well_grouped g) refl g.sealed refl e
   where
     go : (w : Bool) → well_grouped g ≡ w → (s : Bool) → g.sealed ≡ s
-        → (when not w then Opened.Refused broken else when s then Opened.Refused sealed else Open) ≡ Open → (well_grouped g ≡ true) × (g.sealed ≡ false)
+        → gate w s ≡ Ok tt → (well_grouped g ≡ true) × (g.sealed ≡ false)
     go true w false s q = (w, s)
     go true w true s q = let z : ◌≡◌ {A = ℕ} 0 1 = cc in absurd (omega arith)
     go false w s t q = let z : ◌≡◌ {A = ℕ} 0 1 = cc in absurd (omega arith)
 
-pub means_unsealed : (g : Groups) → well_grouped g ≡ true → g.sealed ≡ false → unsealed g ≡ Open
-means_unsealed g w s = miss (Opened.Refused broken) (ap not w) ∙ miss (Opened.Refused sealed) s
+pub means_unsealed : (g : Groups) → well_grouped g ≡ true → g.sealed ≡ false → unsealed g ≡ Ok tt
+means_unsealed g w s = miss (Err Broken) (ap not w) ∙ miss (Err Sealed) s
 
 -- the next domain is a u64
-pub domain_fits : (g : Groups) → unsealed g ≡ Open → g.base + g.next ≤ 18446744073709551615
+pub domain_fits : (g : Groups) → unsealed g ≡ Ok tt → g.base + g.next ≤ 18446744073709551615
 domain_fits g e = let f : Fit g = fit g (unsealed_means g e).0 in omega arith
 
 -- room is a free place, and an id is left
-pub room_means : (g : Groups) (i : ℕ) → room_of g ≡ Spot.At i → (first_yes g Free [] ≡ At i) × (g.next < 65536)
+pub room_means : (g : Groups) (i : ℕ) → room_of g ≡ Ok i → (first_yes g Free [] ≡ Some i) × (g.next < 65536)
 room_means g i e = go (first_yes g Free []) refl e
   where
-    picked : (j : ℕ) (b : Bool) → leb ids g.next ≡ b → first_yes g Free [] ≡ At j → (when b then Spot.Refused no_id else Spot.At j) ≡ Spot.At i → (first_yes g Free [] ≡ At i) × (g.next < 65536)
+    picked : (j : ℕ) (b : Bool) → leb ids g.next ≡ b → first_yes g Free [] ≡ Some j → (when b then Err NoId else Ok j) ≡ Ok i → (first_yes g Free [] ≡ Some i) × (g.next < 65536)
     picked j true n f q = let z : ◌≡◌ {A = ℕ} 0 1 = cc in absurd (omega arith)
     picked j false n f q = let z : j ≡ i = cc in (cc, leb-false _ _ n)
 
-    go : (f : Found) → first_yes g Free [] ≡ f → room_at g f ≡ Spot.At i → (first_yes g Free [] ≡ At i) × (g.next < 65536)
-    go Missing f q = let z : ◌≡◌ {A = ℕ} 0 1 = cc in absurd (omega arith)
-    go (At j) f q = picked j (leb ids g.next) refl f q
+    go : (f : Option ℕ) → first_yes g Free [] ≡ f → room_at g f ≡ Ok i → (first_yes g Free [] ≡ Some i) × (g.next < 65536)
+    go None f q = let z : ◌≡◌ {A = ℕ} 0 1 = cc in absurd (omega arith)
+    go (Some j) f q = picked j (leb ids g.next) refl f q
 
-pub room_below : (g : Groups) (i : ℕ) → length g.places ≡ 16 → room_of g ≡ Spot.At i → (i < 16) × (g.next < 65536)
+pub room_below : (g : Groups) (i : ℕ) → length g.places ≡ 16 → room_of g ≡ Ok i → (i < 16) × (g.next < 65536)
 room_below g i l e = (first_below g Free [] i l (room_means g i e).0, (room_means g i e).1)
 
 -- an empty record has given no id

@@ -3,4 +3,4 @@
 
 mod openings;
 
-pub use openings::{AddAnswer, Added, NewAnswer, add_iterator, add_scope, is_unsealed, new};
+pub use openings::{Added, add_iterator, add_scope, is_unsealed, new};

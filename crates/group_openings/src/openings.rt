@@ -2,35 +2,26 @@
 ghost use Rattle.std.specs.Prelude.{◌≡◌};
 ghost use Rattle.group_openings.specs.Openings.{new_of, unsealed, room_of, refused_add, added, added_queue, added_scope, added_iterator};
 
-use group_asking::Question;
-use group_check::{IDS, LAST_BASE, Spot, lowest, well_grouped};
-use group_record::{Groups, empty, put_new};
-use queue_record::refusal::{BROKEN, GROUPS_FULL, NO_ID, SEALED};
-use queue_record::{Found, OpenAnswer, Opened, Queue, iterator, scope};
-
-#[derive(Clone, Copy)]
-pub struct NewAnswer {
-    pub answer: Opened,
-    pub groups: Groups,
-}
+use group_asking::lowest_free;
+use group_check::{IDS, LAST_BASE, Spot, sound};
+use group_record::{Groups, GroupsAnswered, empty, put_new};
+use queue_record::{Answered, Opened, Queue, Refusal, iterator, scope};
 
 // The root is open as id 0; a base too large gets the empty record of base 0.
-pub fn new(base: u64) -> NewAnswer
+#[tactic(auto, using(crate::proofs::Room::none_yet), unfolding(crate::specs::Openings::new_of))]
+pub fn new(base: u64) -> GroupsAnswered<Opened>
     ensures { result ≡ new_of base }
 {
     if LAST_BASE < base {
-        let none = empty(0);
-        return NewAnswer {
-            answer: Opened::Refused(NO_ID),
-            groups: none,
+        return GroupsAnswered {
+            answer: Err(Refusal::NoId),
+            groups: empty(0),
         };
     }
-    let opening = scope(base, 0);
-    let root = opening.queue;
-    let groups = put_new(empty(base), 0, root);
-    NewAnswer {
-        answer: Opened::Open,
-        groups: groups,
+    let root = scope(base, 0);
+    GroupsAnswered {
+        answer: Ok(()),
+        groups: put_new(empty(base), 0, root.queue),
     }
 }
 
@@ -38,103 +29,76 @@ pub fn new(base: u64) -> NewAnswer
 pub fn is_unsealed(g: Groups) -> Opened
     ensures { result ≡ unsealed g }
 {
-    if !well_grouped(g) {
-        return Opened::Refused(BROKEN);
-    }
+    sound(g)?;
     if g.sealed {
-        return Opened::Refused(SEALED);
+        return Err(Refusal::Sealed);
     }
-    Opened::Open
+    Ok(())
 }
 
 // The lowest free place, if an id is left for it.
 fn room(g: Groups) -> Spot
     ensures { result ≡ room_of g }
 {
-    let found = lowest(g, Question::Free);
-    let Found::At(place) = found else {
-        return Spot::Refused(GROUPS_FULL);
-    };
+    let place = lowest_free(g).ok_or(Refusal::GroupsFull)?;
     if IDS <= g.next {
-        return Spot::Refused(NO_ID);
+        return Err(Refusal::NoId);
     }
-    Spot::At(place as usize)
+    Ok(place)
 }
 
-#[derive(Clone, Copy)]
-pub enum Added {
-    Id(u64),
-    Refused(u64),
-}
+pub type Added = Result<u64, Refusal>;
 
-#[derive(Clone, Copy)]
-pub struct AddAnswer {
-    pub answer: Added,
-    pub groups: Groups,
-}
-
-fn add_refused(g: Groups, refusal: u64) -> AddAnswer
+fn add_refused(g: Groups, refusal: Refusal) -> GroupsAnswered<Added>
     ensures { result ≡ refused_add g refusal }
 {
-    AddAnswer {
-        answer: Added::Refused(refusal),
+    GroupsAnswered {
+        answer: Err(refusal),
         groups: g,
     }
 }
 
-fn add(g: Groups, queue: Queue) -> AddAnswer
+#[tactic(auto, using(crate::proofs::Room::room_below))]
+fn add(g: Groups, queue: Queue) -> GroupsAnswered<Added>
     ensures { result ≡ added g queue }
 {
-    let spot = room(g);
-    match spot {
-        Spot::Refused(refusal) => add_refused(g, refusal),
-        Spot::At(at) => {
-            let id = g.next;
-            let groups = put_new(g, at, queue);
-            AddAnswer {
-                answer: Added::Id(id),
-                groups: groups,
-            }
-        }
+    match room(g) {
+        Err(refusal) => add_refused(g, refusal),
+        Ok(at) => GroupsAnswered {
+            answer: Ok(g.next),
+            groups: put_new(g, at, queue),
+        },
     }
 }
 
-// Where the queue's own opening is refused, that number is passed on.
-fn add_opened(g: Groups, opening: OpenAnswer) -> AddAnswer
+// Where the queue's own opening is refused, that refusal is passed on.
+fn add_opened(g: Groups, opening: Answered<Opened>) -> GroupsAnswered<Added>
     ensures { result ≡ added_queue g opening.queue opening.answer }
 {
-    let answer = opening.answer;
-    let queue = opening.queue;
-    match answer {
-        Opened::Refused(refusal) => add_refused(g, refusal),
-        Opened::Open => add(g, queue),
+    match opening.answer {
+        Err(refusal) => add_refused(g, refusal),
+        Ok(()) => add(g, opening.queue),
     }
 }
 
 // A scope has no bindings: it never gets 14.
-pub fn add_scope(g: Groups) -> AddAnswer
+#[tactic(auto, using(crate::proofs::Room::domain_fits), unfolding(crate::specs::Openings::added_scope))]
+pub fn add_scope(g: Groups) -> GroupsAnswered<Added>
     ensures { result ≡ added_scope g }
 {
-    let gate = is_unsealed(g);
-    match gate {
-        Opened::Refused(refusal) => add_refused(g, refusal),
-        Opened::Open => {
-            let opening = scope(g.base + g.next, 0);
-            add_opened(g, opening)
-        }
+    match is_unsealed(g) {
+        Err(refusal) => add_refused(g, refusal),
+        Ok(()) => add_opened(g, scope(g.base + g.next, 0)),
     }
 }
 
 // Opens an iterator with its committed bindings.
-pub fn add_iterator(g: Groups, bindings: &[u64]) -> AddAnswer
+#[tactic(auto, using(crate::proofs::Room::domain_fits), unfolding(crate::specs::Openings::added_iterator))]
+pub fn add_iterator(g: Groups, bindings: &[u64]) -> GroupsAnswered<Added>
     ensures { result ≡ added_iterator g bindings.now }
 {
-    let gate = is_unsealed(g);
-    match gate {
-        Opened::Refused(refusal) => add_refused(g, refusal),
-        Opened::Open => {
-            let opening = iterator(g.base + g.next, 0, bindings);
-            add_opened(g, opening)
-        }
+    match is_unsealed(g) {
+        Err(refusal) => add_refused(g, refusal),
+        Ok(()) => add_opened(g, iterator(g.base + g.next, 0, bindings)),
     }
 }

@@ -1,18 +1,15 @@
 -- R113: the yes-or-no calls of a group, and its domain
-use Rattle.std.specs.Prelude.{ℕ, List}
+use Rattle.std.specs.Prelude.{ℕ, not, List, Ok, Err}
 use Rattle.queue_questions.specs.Questions.{is_empty_told, is_issued_told, is_pending_told, is_settled_told, is_cancelled_told, has_failed_told, can_retry_told, can_finish_told, domain_told}
-use Rattle.queue_questions.specs.declared.questions.Told.{Told}
-use Rattle.queue_questions.specs.declared.questions.Told.TheVariants.{Yes, No}
-use Rattle.queue_questions.specs.declared.questions.DomainTold.{DomainTold}
 use Rattle.group_check.specs.Ids.{got}
 use Rattle.group_record.specs.declared.record.Groups.{Groups}
-use Rattle.group_check.specs.declared.ids.Got.{Got}
-use Rattle.group_check.specs.declared.ids.Got.TheVariants.{Group}
+use Rattle.group_check.specs.Types.{Got}
+use Rattle.queue_questions.specs.Types.{DomainTold, Told}
 
 -- the refusal of the id, or else what its queue told
 abbrev pub told_by : Got → Told → Told
-told_by (Got.Refused refusal) told = Told.Refused refusal
-told_by Group told = told
+told_by (Err refusal) told = Err refusal
+told_by (Ok tt) told = told
 
 abbrev pub is_empty_in : Groups → ℕ → Told
 is_empty_in g id = told_by (got g id).answer (is_empty_told (got g id).queue)
@@ -39,16 +36,15 @@ abbrev pub can_finish_in : Groups → ℕ → List ℕ → Told
 can_finish_in g id target = told_by (got g id).answer (can_finish_told (got g id).queue target)
 
 abbrev pub domain_by : Got → DomainTold → DomainTold
-domain_by (Got.Refused refusal) told = DomainTold.Refused refusal
-domain_by Group told = told
+domain_by (Err refusal) told = Err refusal
+domain_by (Ok tt) told = told
 
 abbrev pub domain_in : Groups → ℕ → DomainTold
 domain_in g id = domain_by (got g id).answer (domain_told (got g id).queue)
 
 abbrev pub negation : Told → Told
-negation Yes = No
-negation No = Yes
-negation (Told.Refused refusal) = Told.Refused refusal
+negation (Ok told) = Ok (not told)
+negation (Err refusal) = Err refusal
 
 -- R122: upstream's accepts_acquisition, the stage is not cancelled
 abbrev pub accepts_in : Groups → ℕ → Told

@@ -1,16 +1,15 @@
 -- The group record with one part set, and the records that calls make. An added field changes this file and no call
-use Rattle.std.specs.Prelude.{ℕ, ◌+◌, true, false, List, [], get_or, set, replicate}
+use Rattle.std.specs.Prelude.{ℕ, ◌+◌, true, false, List, [], get_or, set, replicate, None}
 use Rattle.stage.specs.declared.phases.Phase.TheVariants.{Idle}
 use Rattle.queue_record.specs.Openings.{blank}
 use Rattle.queue_record.specs.declared.record.Kind.TheVariants.{Scope}
-use Rattle.queue_record.specs.declared.record.Selection.TheVariants.{Free}
 use Rattle.queue_record.specs.declared.record.Queue.{Queue}
 use Rattle.group_record.specs.declared.record.Place.{Place}
 use Rattle.group_record.specs.declared.record.Groups.{Groups}
 
 -- what a read past the last place would give: it is the machine's own default, and no call reads there
 abbrev pub nowhere : Place
-nowhere = record { id = 0; live = false; queue = record { kind = Scope; domain = 0; next = 0; slots = []; count = 0; selection = Free; failed = false; issued = false; phase = Idle; bindings = []; bound = 0 } }
+nowhere = record { id = 0; live = false; queue = record { kind = Scope; domain = 0; next = 0; slots = []; count = 0; selection = None; failed = false; issued = false; phase = Idle; bindings = []; bound = 0 } }
 
 abbrev pub place_at : Groups → ℕ → Place
 place_at g i = get_or g.places i nowhere

@@ -1,18 +1,19 @@
 // Places and records made, and a record with one place set: a field that is added later changes this file and no call.
 ghost use Rattle.std.specs.Prelude.{◌<◌, ◌≡◌};
+ghost use Rattle.group_record.specs.declared.answered.GroupsAnswered.{GroupsAnswered};
 ghost use Rattle.group_record.specs.Record.{free_place, live_place, empty_of, with_place, with_queue, with_opened, sealing};
 
+use crate::answered::GroupsAnswered;
 use crate::record::{Groups, Place};
-use queue_record::{Queue, blank};
+use queue_record::{Answered, Queue, blank};
 
 pub fn free_place() -> Place
     ensures { result ≡ free_place }
 {
-    let none = blank();
     Place {
         id: 0,
         live: false,
-        queue: none,
+        queue: blank(),
     }
 }
 
@@ -20,34 +21,33 @@ fn live_place(id: u64, queue: Queue) -> Place
     ensures { result ≡ live_place id queue }
 {
     Place {
-        id: id,
+        id,
         live: true,
-        queue: queue,
+        queue,
     }
 }
 
+#[tactic(auto, unfolding(crate::specs::Record::empty_of))]
 pub fn empty(base: u64) -> Groups
     ensures { result ≡ empty_of base }
 {
-    let place = free_place();
     Groups {
-        base: base,
+        base,
         next: 0,
         sealed: false,
-        places: [place; 16],
+        places: [free_place(); 16],
     }
 }
 
 // Every place is free.
+#[tactic(auto, unfolding(crate::specs::Record::sealing))]
 pub fn sealed_of(g: Groups) -> Groups
     ensures { result ≡ sealing g }
 {
-    let place = free_place();
     Groups {
-        base: g.base,
-        next: g.next,
         sealed: true,
-        places: [place; 16],
+        places: [free_place(); 16],
+        ..g
     }
 }
 
@@ -64,9 +64,25 @@ pub fn put_queue(g: Groups, at: usize, queue: Queue) -> Groups
     requires { at < 16 }
     ensures { result ≡ with_queue g at queue }
 {
-    let mut place = g.places[at];
-    place.queue = queue;
-    put_place(g, at, place)
+    put_place(
+        g,
+        at,
+        Place {
+            queue,
+            ..g.places[at]
+        },
+    )
+}
+
+// What a step of the queue there says, and its queue in its place.
+pub fn put_back<A>(g: Groups, at: usize, step: Answered<A>) -> GroupsAnswered<A>
+    requires { at < 16 }
+    ensures { result ≡ record { answer = step.answer; groups = with_queue g at step.queue } }
+{
+    GroupsAnswered {
+        answer: step.answer,
+        groups: put_queue(g, at, step.queue),
+    }
 }
 
 // One group more, and next rises by 1.
@@ -74,9 +90,8 @@ pub fn put_new(g: Groups, at: usize, queue: Queue) -> Groups
     requires { (at < 16) × (g.next < 65536) }
     ensures { result ≡ with_opened g at queue }
 {
-    let id = g.next;
-    let place = live_place(id, queue);
-    let mut after = put_place(g, at, place);
-    after.next = id + 1;
-    after
+    Groups {
+        next: g.next + 1,
+        ..put_place(g, at, live_place(g.next, queue))
+    }
 }

@@ -33,3 +33,14 @@ past_all (p ∷ ps) (suc i) h = ap (λ (l : List Place). retried_place p ∷ l) 
 
 pub halfway_all : (ps : List Place) (i : ℕ) → length ps ≡ 16 → 16 ≤ i → halfway ps i ≡ retried_places ps
 halfway_all ps i l h = past_all ps i (omega arith)
+
+-- the place that is next is as it was
+as_it_was : (ps : List Place) (i : ℕ) → get_or (halfway ps i) i nowhere ≡ get_or ps i nowhere
+as_it_was [] i = refl
+as_it_was (p ∷ ps) zero = refl
+as_it_was (p ∷ ps) (suc i) = as_it_was ps i
+
+pub halfway_on : (ps now : List Place) (i : ℕ) (p : Place) → length ps ≡ 16 → i < 16 → now ≡ halfway ps i → p ≡ retried_place (get_or now i nowhere) → set now i p ≡ halfway ps (i + 1)
+halfway_on ps now i p l h e f =
+    let g : p ≡ retried_place (get_or ps i nowhere) = f ∙ ap retried_place (ap (λ (x : List Place). get_or x i nowhere) e ∙ as_it_was ps i) in
+    ap (λ (x : List Place). set x i p) e ∙ (ap (set (halfway ps i) i) g ∙ halfway_more ps i l h)

@@ -3,4 +3,4 @@
 
 mod rounds;
 
-pub use rounds::{RetryAllAnswer, retry_all};
+pub use rounds::retry_all;

@@ -3,67 +3,54 @@ ghost use Rattle.std.specs.Prelude.{◌≡◌};
 ghost use Rattle.group_rounds.specs.Rounds.{retried_place, all_retried, retried_all};
 
 use group_check::well_grouped;
-use group_record::{Groups, Place};
+use group_record::{Groups, GroupsAnswered, Place};
 use group_survey::may_retry_all;
 use queue_questions::Told;
-use queue_record::refusal::BROKEN;
-
-#[derive(Clone, Copy)]
-pub struct RetryAllAnswer {
-    pub answer: Told,
-    pub groups: Groups,
-}
+use queue_record::Refusal;
 
 // A live place whose group has failed, retried; any other as it is.
 fn renew(place: Place) -> Place
     ensures { result ≡ retried_place place }
 {
-    if !place.live {
-        return place;
+    if place.live && place.queue.failed {
+        Place {
+            queue: queue_steps::retry(place.queue).queue,
+            ..place
+        }
+    } else {
+        place
     }
-    let queue = place.queue;
-    if !queue.failed {
-        return place;
-    }
-    let step = queue_steps::retry(queue);
-    let after = step.queue;
-    let mut renewed = place;
-    renewed.queue = after;
-    renewed
 }
 
 fn renew_all(g: Groups) -> Groups
     ensures { result ≡ all_retried g }
 {
     let mut after = g;
-    let mut i = 0;
-    while i < 16 {
-        let place = g.places[i];
-        after.places[i] = renew(place);
-        i += 1;
+    for place in after.places.iter_mut() {
+        *place = renew(*place);
     }
     after
 }
 
 // Yes if each failed group was retried; no, and nothing changed, if none has failed or one may not be retried.
-pub fn retry_all(g: Groups) -> RetryAllAnswer
+#[tactic(auto, unfolding(crate::specs::Rounds::retried_all))]
+pub fn retry_all(g: Groups) -> GroupsAnswered<Told>
     ensures { result ≡ retried_all g }
 {
     if !well_grouped(g) {
-        return RetryAllAnswer {
-            answer: Told::Refused(BROKEN),
+        return GroupsAnswered {
+            answer: Err(Refusal::Broken),
             groups: g,
         };
     }
     if !may_retry_all(g) {
-        return RetryAllAnswer {
-            answer: Told::No,
+        return GroupsAnswered {
+            answer: Ok(false),
             groups: g,
         };
     }
-    let groups = renew_all(g);
-    RetryAllAnswer {
-        answer: Told::Yes,
-        groups: groups,
+    GroupsAnswered {
+        answer: Ok(true),
+        groups: renew_all(g),
     }
 }

@@ -3,4 +3,4 @@
 
 mod stages;
 
-pub use stages::{GroupCancelAnswer, GroupStageAnswer, admit, admit_without, cancel, end};
+pub use stages::{admit, admit_without, cancel, end};

@@ -2,109 +2,61 @@
 ghost use Rattle.std.specs.Prelude.{◌≡◌};
 ghost use Rattle.group_stages.specs.Stages.{admitted_in, admitted_in_without, ended_in, cancelled_in};
 
-use group_check::{Spot, look_up, queue_at};
-use group_record::{Groups, put_queue};
+use group_check::{look_up, queue_at};
+use group_record::{Groups, GroupsAnswered, put_back};
 use queue_questions::Told;
 use queue_stages::Cancelled;
 
-#[derive(Clone, Copy)]
-pub struct GroupStageAnswer {
-    pub answer: Told,
-    pub groups: Groups,
-}
-
 // With a target.
-pub fn admit(g: Groups, id: u64, target: &[u64]) -> GroupStageAnswer
+#[tactic(auto, using(group_check::proofs::Spots::spot_below), unfolding(crate::specs::Stages::admitted_in))]
+pub fn admit(g: Groups, id: u64, target: &[u64]) -> GroupsAnswered<Told>
     ensures { result ≡ admitted_in g id target.now }
 {
-    let spot = look_up(g, id);
-    match spot {
-        Spot::Refused(refusal) => GroupStageAnswer {
-            answer: Told::Refused(refusal),
+    match look_up(g, id) {
+        Err(refusal) => GroupsAnswered {
+            answer: Err(refusal),
             groups: g,
         },
-        Spot::At(at) => {
-            let step = queue_stages::admit(queue_at(g, at), target);
-            let answer = step.answer;
-            let queue = step.queue;
-            let groups = put_queue(g, at, queue);
-            GroupStageAnswer {
-                answer: answer,
-                groups: groups,
-            }
-        }
+        Ok(at) => put_back(g, at, queue_stages::admit(queue_at(g, at), target)),
     }
 }
 
 // Without a target.
-pub fn admit_without(g: Groups, id: u64) -> GroupStageAnswer
+#[tactic(auto, using(group_check::proofs::Spots::spot_below), unfolding(crate::specs::Stages::admitted_in_without))]
+pub fn admit_without(g: Groups, id: u64) -> GroupsAnswered<Told>
     ensures { result ≡ admitted_in_without g id }
 {
-    let spot = look_up(g, id);
-    match spot {
-        Spot::Refused(refusal) => GroupStageAnswer {
-            answer: Told::Refused(refusal),
+    match look_up(g, id) {
+        Err(refusal) => GroupsAnswered {
+            answer: Err(refusal),
             groups: g,
         },
-        Spot::At(at) => {
-            let step = queue_stages::admit_without(queue_at(g, at));
-            let answer = step.answer;
-            let queue = step.queue;
-            let groups = put_queue(g, at, queue);
-            GroupStageAnswer {
-                answer: answer,
-                groups: groups,
-            }
-        }
+        Ok(at) => put_back(g, at, queue_stages::admit_without(queue_at(g, at))),
     }
 }
 
-pub fn end(g: Groups, id: u64) -> GroupStageAnswer
+#[tactic(auto, using(group_check::proofs::Spots::spot_below), unfolding(crate::specs::Stages::ended_in))]
+pub fn end(g: Groups, id: u64) -> GroupsAnswered<Told>
     ensures { result ≡ ended_in g id }
 {
-    let spot = look_up(g, id);
-    match spot {
-        Spot::Refused(refusal) => GroupStageAnswer {
-            answer: Told::Refused(refusal),
+    match look_up(g, id) {
+        Err(refusal) => GroupsAnswered {
+            answer: Err(refusal),
             groups: g,
         },
-        Spot::At(at) => {
-            let step = queue_stages::end(queue_at(g, at));
-            let answer = step.answer;
-            let queue = step.queue;
-            let groups = put_queue(g, at, queue);
-            GroupStageAnswer {
-                answer: answer,
-                groups: groups,
-            }
-        }
+        Ok(at) => put_back(g, at, queue_stages::end(queue_at(g, at))),
     }
 }
 
-#[derive(Clone, Copy)]
-pub struct GroupCancelAnswer {
-    pub answer: Cancelled,
-    pub groups: Groups,
-}
-
-pub fn cancel(g: Groups, id: u64) -> GroupCancelAnswer
+#[tactic(auto, using(group_check::proofs::Spots::spot_below), unfolding(crate::specs::Stages::cancelled_in))]
+pub fn cancel(g: Groups, id: u64) -> GroupsAnswered<Cancelled>
     ensures { result ≡ cancelled_in g id }
 {
-    let spot = look_up(g, id);
-    match spot {
-        Spot::Refused(refusal) => GroupCancelAnswer {
-            answer: Cancelled::Refused(refusal),
+    match look_up(g, id) {
+        Err(refusal) => GroupsAnswered {
+            answer: Err(refusal),
             groups: g,
         },
-        Spot::At(at) => {
-            let step = queue_stages::cancel(queue_at(g, at));
-            let answer = step.answer;
-            let queue = step.queue;
-            let groups = put_queue(g, at, queue);
-            GroupCancelAnswer {
-                answer: answer,
-                groups: groups,
-            }
-        }
+        Ok(at) => put_back(g, at, queue_stages::cancel(queue_at(g, at))),
     }
 }

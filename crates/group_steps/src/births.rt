@@ -2,56 +2,32 @@
 ghost use Rattle.std.specs.Prelude.{◌≡◌};
 ghost use Rattle.group_steps.specs.Births.{registered_in, landed_in};
 
-use group_check::{Spot, look_up, queue_at};
-use group_record::{Groups, put_queue};
+use group_check::{look_up, queue_at};
+use group_record::{Groups, GroupsAnswered, put_back};
 use queue_births::Registered;
 
-#[derive(Clone, Copy)]
-pub struct GroupRegisterAnswer {
-    pub answer: Registered,
-    pub groups: Groups,
-}
-
-pub fn register(g: Groups, id: u64, number: u64) -> GroupRegisterAnswer
+#[tactic(auto, using(group_check::proofs::Spots::spot_below), unfolding(crate::specs::Births::registered_in))]
+pub fn register(g: Groups, id: u64, number: u64) -> GroupsAnswered<Registered>
     ensures { result ≡ registered_in g id number }
 {
-    let spot = look_up(g, id);
-    match spot {
-        Spot::Refused(refusal) => GroupRegisterAnswer {
-            answer: Registered::Refused(refusal, number),
+    match look_up(g, id) {
+        Err(refusal) => GroupsAnswered {
+            answer: Err((refusal, number)),
             groups: g,
         },
-        Spot::At(at) => {
-            let step = queue_births::register(queue_at(g, at), number);
-            let answer = step.answer;
-            let queue = step.queue;
-            let groups = put_queue(g, at, queue);
-            GroupRegisterAnswer {
-                answer: answer,
-                groups: groups,
-            }
-        }
+        Ok(at) => put_back(g, at, queue_births::register(queue_at(g, at), number)),
     }
 }
 
-pub fn land(g: Groups, id: u64, number: u64) -> GroupRegisterAnswer
+#[tactic(auto, using(group_check::proofs::Spots::spot_below), unfolding(crate::specs::Births::landed_in))]
+pub fn land(g: Groups, id: u64, number: u64) -> GroupsAnswered<Registered>
     ensures { result ≡ landed_in g id number }
 {
-    let spot = look_up(g, id);
-    match spot {
-        Spot::Refused(refusal) => GroupRegisterAnswer {
-            answer: Registered::Refused(refusal, number),
+    match look_up(g, id) {
+        Err(refusal) => GroupsAnswered {
+            answer: Err((refusal, number)),
             groups: g,
         },
-        Spot::At(at) => {
-            let step = queue_births::land(queue_at(g, at), number);
-            let answer = step.answer;
-            let queue = step.queue;
-            let groups = put_queue(g, at, queue);
-            GroupRegisterAnswer {
-                answer: answer,
-                groups: groups,
-            }
-        }
+        Ok(at) => put_back(g, at, queue_births::land(queue_at(g, at), number)),
     }
 }

@@ -5,6 +5,6 @@ mod attempts;
 mod births;
 mod sequences;
 
-pub use attempts::{GroupCompleteAnswer, GroupPopAnswer, GroupRetryAnswer, complete, pop, retry};
-pub use births::{GroupRegisterAnswer, land, register};
-pub use sequences::{GroupRegisterAllAnswer, register_all};
+pub use attempts::{complete, pop, retry};
+pub use births::{land, register};
+pub use sequences::register_all;

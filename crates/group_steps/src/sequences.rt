@@ -2,37 +2,22 @@
 ghost use Rattle.std.specs.Prelude.{◌≡◌};
 ghost use Rattle.group_steps.specs.Sequences.{registered_all_in};
 
-use group_check::{Spot, look_up, queue_at};
-use group_record::{Groups, put_queue};
+use group_check::{look_up, queue_at};
+use group_record::{Groups, GroupsAnswered, put_back};
 use queue_births::RegisteredAll;
 
-#[derive(Clone, Copy)]
-pub struct GroupRegisterAllAnswer {
-    pub answer: RegisteredAll,
-    pub groups: Groups,
-}
-
-pub fn register_all(g: Groups, id: u64, numbers: &[u64]) -> GroupRegisterAllAnswer
+#[tactic(auto, using(group_check::proofs::Spots::spot_below), unfolding(crate::specs::Sequences::registered_all_in))]
+pub fn register_all(g: Groups, id: u64, numbers: &[u64]) -> GroupsAnswered<RegisteredAll>
     ensures { result ≡ registered_all_in g id numbers.now }
 {
-    let spot = look_up(g, id);
-    match spot {
-        Spot::Refused(refusal) => GroupRegisterAllAnswer {
+    match look_up(g, id) {
+        Err(refusal) => GroupsAnswered {
             answer: RegisteredAll {
                 taken: 0,
-                refusal: refusal,
+                refusal: Some(refusal),
             },
             groups: g,
         },
-        Spot::At(at) => {
-            let step = queue_births::register_all(queue_at(g, at), numbers);
-            let answer = step.answer;
-            let queue = step.queue;
-            let groups = put_queue(g, at, queue);
-            GroupRegisterAllAnswer {
-                answer: answer,
-                groups: groups,
-            }
-        }
+        Ok(at) => put_back(g, at, queue_births::register_all(queue_at(g, at), numbers)),
     }
 }

@@ -1,24 +1,24 @@
 -- The calls that ask of the whole record (R115 to R120), among them upstream's contains, is_empty, len and
 -- can_add_iterator; R123: 1 alone refuses them
-use Rattle.std.specs.Prelude.{ℕ, Bool, not, ◌&&◌, List, [], ltb}
+use Rattle.std.specs.Prelude.{ℕ, Bool, not, ◌&&◌, List, [], ltb, Ok, Err}
 use Rattle.choice.specs.Choice.{when◌then◌else◌}
-use Rattle.queue_record.specs.Refusals.{broken}
+use Rattle.queue_record.specs.declared.refusal.Refusal.TheVariants.{Broken}
 use Rattle.queue_questions.specs.Questions.{yes_or_no}
-use Rattle.queue_questions.specs.declared.questions.Told.{Told}
 use Rattle.group_asking.specs.Scan.{some_yes}
 use Rattle.group_check.specs.Count.{live_count}
 use Rattle.group_check.specs.WellFormed.{ids, well_grouped}
 use Rattle.group_record.specs.declared.record.Groups.{Groups}
-use Rattle.group_asking.specs.declared.questions.Question.TheVariants.{Free, Live, Holds, Pending, Issued, Failed, Stuck, Unfinished, Undrained}
-use Rattle.group_survey.specs.declared.whole.LenTold.{LenTold}
+use Rattle.group_asking.specs.Question.{Free, Live, HoldsId, Pending, Issued, Failed, Stuck, Unfinished, Undrained}
+use Rattle.group_survey.specs.Types.{LenTold}
+use Rattle.queue_questions.specs.Types.{Told}
 
 -- a question put to a record: 1 if it is not well formed, else the answer
 abbrev pub told_of : Groups → Bool → Told
-told_of g answer = when not (well_grouped g) then Told.Refused broken else yes_or_no answer
+told_of g answer = when not (well_grouped g) then Err Broken else yes_or_no answer
 
 -- R120: contains, the id is live
 abbrev pub contains_told : Groups → ℕ → Told
-contains_told g id = told_of g (some_yes g (Holds id) [])
+contains_told g id = told_of g (some_yes g (HoldsId id) [])
 
 -- R120: is_empty, no group is live
 abbrev pub is_empty_of : Groups → Told
@@ -60,4 +60,4 @@ can_add_of g = told_of g (room_for g)
 
 -- R120: len, how many groups are live
 abbrev pub len_of : Groups → LenTold
-len_of g = when not (well_grouped g) then LenTold.Refused broken else LenTold.Live (live_count g.places)
+len_of g = when not (well_grouped g) then Err Broken else Ok (live_count g.places)

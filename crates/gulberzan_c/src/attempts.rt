@@ -2,7 +2,7 @@
 ghost use Rattle.std.specs.Prelude.{◌≡◌};
 ghost use Rattle.queue_words.specs.Exported.{exported, pop_on, complete_on, retry_on};
 
-use queue_record::refusal::BROKEN;
+use queue_record::Refusal;
 use queue_words::layout::*;
 use queue_words::sound;
 use word_steps::{complete_in, pop_in, retry_in};
@@ -13,7 +13,7 @@ pub extern "C" fn gulberzan_pop(queue: &mut Words, answer: &mut Answer) -> u64
 {
     if !sound(queue) {
         *answer = [0, 0, 0, 0, 0];
-        return BROKEN;
+        return Refusal::Broken.into();
     }
     pop_in(queue, answer)
 }
@@ -30,7 +30,7 @@ pub extern "C" fn gulberzan_complete(
 {
     if !sound(queue) {
         *answer = [0, kept, 0, 0, 0];
-        return BROKEN;
+        return Refusal::Broken.into();
     }
     complete_in(queue, ticket, outcome, kept, answer)
 }
@@ -41,7 +41,7 @@ pub extern "C" fn gulberzan_retry(queue: &mut Words, answer: &mut Answer) -> u64
 {
     if !sound(queue) {
         *answer = [0, 0, 0, 0, 0];
-        return BROKEN;
+        return Refusal::Broken.into();
     }
     retry_in(queue, answer)
 }

@@ -2,7 +2,7 @@
 ghost use Rattle.std.specs.Prelude.{◌≡◌};
 ghost use Rattle.queue_words.specs.Exported.{exported, register_on, land_on};
 
-use queue_record::refusal::BROKEN;
+use queue_record::Refusal;
 use queue_words::layout::*;
 use queue_words::sound;
 use word_steps::{land_in, register_in};
@@ -13,7 +13,7 @@ pub extern "C" fn gulberzan_register(queue: &mut Words, number: u64, answer: &mu
 {
     if !sound(queue) {
         *answer = [0, number, 0, 0, 0];
-        return BROKEN;
+        return Refusal::Broken.into();
     }
     register_in(queue, number, answer)
 }
@@ -25,7 +25,7 @@ pub extern "C" fn gulberzan_land(queue: &mut Words, number: u64, answer: &mut An
 {
     if !sound(queue) {
         *answer = [0, number, 0, 0, 0];
-        return BROKEN;
+        return Refusal::Broken.into();
     }
     land_in(queue, number, answer)
 }

@@ -1,12 +1,13 @@
-// The calls that ask and change nothing.
+// The calls that ask and change nothing. Each is a name of the C interface, and asks for itself whether its words are sound.
 ghost use Rattle.std.specs.Prelude.{◌≡◌};
 ghost use Rattle.queue_words.specs.Words.{is_sound};
 ghost use Rattle.queue_words.specs.Exported.{exported, is_empty_on, is_issued_on, is_pending_on, is_settled_on, is_cancelled_on, has_failed_on, can_retry_on, can_finish_on, domain_on};
 ghost use Rattle.queue_words.specs.InPlace.{sound_number};
 
-use queue_record::refusal::BROKEN;
+use queue_record::Refusal;
 use queue_words::layout::*;
 use queue_words::{finish_allowed, nothing_left, retry_allowed, sound, yes_word};
+use stage::Phase;
 
 #[unsafe(no_mangle)]
 pub extern "C" fn gulberzan_is_empty(queue: &Words, answer: &mut Answer) -> u64
@@ -14,7 +15,7 @@ pub extern "C" fn gulberzan_is_empty(queue: &Words, answer: &mut Answer) -> u64
 {
     if !sound(queue) {
         *answer = [0, 0, 0, 0, 0];
-        return BROKEN;
+        return Refusal::Broken.into();
     }
     *answer = [yes_word(nothing_left(queue)), 0, 0, 0, 0];
     0
@@ -26,7 +27,7 @@ pub extern "C" fn gulberzan_is_issued(queue: &Words, answer: &mut Answer) -> u64
 {
     if !sound(queue) {
         *answer = [0, 0, 0, 0, 0];
-        return BROKEN;
+        return Refusal::Broken.into();
     }
     *answer = [yes_word(queue[ISSUED] == 1), 0, 0, 0, 0];
     0
@@ -38,15 +39,9 @@ pub extern "C" fn gulberzan_is_pending(queue: &Words, answer: &mut Answer) -> u6
 {
     if !sound(queue) {
         *answer = [0, 0, 0, 0, 0];
-        return BROKEN;
+        return Refusal::Broken.into();
     }
-    *answer = [
-        yes_word(stage::pending(stage::phase_at(queue[PHASE]))),
-        0,
-        0,
-        0,
-        0,
-    ];
+    *answer = [yes_word(Phase::from(queue[PHASE]).is_pending()), 0, 0, 0, 0];
     0
 }
 
@@ -56,15 +51,9 @@ pub extern "C" fn gulberzan_is_settled(queue: &Words, answer: &mut Answer) -> u6
 {
     if !sound(queue) {
         *answer = [0, 0, 0, 0, 0];
-        return BROKEN;
+        return Refusal::Broken.into();
     }
-    *answer = [
-        yes_word(stage::settled(stage::phase_at(queue[PHASE]))),
-        0,
-        0,
-        0,
-        0,
-    ];
+    *answer = [yes_word(Phase::from(queue[PHASE]).is_settled()), 0, 0, 0, 0];
     0
 }
 
@@ -74,10 +63,10 @@ pub extern "C" fn gulberzan_is_cancelled(queue: &Words, answer: &mut Answer) -> 
 {
     if !sound(queue) {
         *answer = [0, 0, 0, 0, 0];
-        return BROKEN;
+        return Refusal::Broken.into();
     }
     *answer = [
-        yes_word(stage::cancelled(stage::phase_at(queue[PHASE]))),
+        yes_word(Phase::from(queue[PHASE]).is_cancelled()),
         0,
         0,
         0,
@@ -92,7 +81,7 @@ pub extern "C" fn gulberzan_has_failed(queue: &Words, answer: &mut Answer) -> u6
 {
     if !sound(queue) {
         *answer = [0, 0, 0, 0, 0];
-        return BROKEN;
+        return Refusal::Broken.into();
     }
     *answer = [yes_word(queue[FAILED] == 1), 0, 0, 0, 0];
     0
@@ -104,7 +93,7 @@ pub extern "C" fn gulberzan_can_retry(queue: &Words, answer: &mut Answer) -> u64
 {
     if !sound(queue) {
         *answer = [0, 0, 0, 0, 0];
-        return BROKEN;
+        return Refusal::Broken.into();
     }
     *answer = [yes_word(retry_allowed(queue)), 0, 0, 0, 0];
     0
@@ -116,7 +105,7 @@ pub extern "C" fn gulberzan_can_finish(queue: &Words, target: &[u64], answer: &m
 {
     if !sound(queue) {
         *answer = [0, 0, 0, 0, 0];
-        return BROKEN;
+        return Refusal::Broken.into();
     }
     *answer = [yes_word(finish_allowed(queue, target)), 0, 0, 0, 0];
     0
@@ -128,7 +117,7 @@ pub extern "C" fn gulberzan_domain(queue: &Words, answer: &mut Answer) -> u64
 {
     if !sound(queue) {
         *answer = [0, 0, 0, 0, 0];
-        return BROKEN;
+        return Refusal::Broken.into();
     }
     *answer = [1, queue[DOMAIN], 0, 0, 0];
     0

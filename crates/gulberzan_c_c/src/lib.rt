@@ -1,4 +1,4 @@
-// The archive for C: each call of gulberzan_c under its name, with the same clauses.
+// The archive for C: each call of gulberzan_c under its name, with the same clauses: C needs each as a function of its own.
 #![tactic(auto)]
 
 mod attempts;

@@ -8,7 +8,6 @@ use native.Mathlib.Omega.{arith}
 use borrow.Author.Tests.{le-leb}
 use lib.ListN.{length, drop, length-append}
 use Rattle.queue_record.specs.declared.record.Queue.{Queue}
-use Rattle.queue_record.specs.declared.openings.Opened.{Opened}
 use Rattle.log_rows.specs.Rows.{rows}
 use Rattle.cleanup_queue.specs.Runs.{after}
 use Rattle.log_rows.specs.Appending.{rows_fit}
@@ -26,12 +25,13 @@ use Rattle.history.specs.Histories.{Bench, bench, called, Start, History, opens,
 use Rattle.log_entries.proofs.NoteLaws.{Put}
 use Rattle.history.proofs.CallOfRow.{Writes, writes}
 use Rattle.history.proofs.Spoken.{Stands, stands, history_belongs, history_ends, rows_after}
+use Rattle.std.specs.Prelude.{Ok}
 
 fitted : (x : Bench) → x.used * 5 ≤ length x.log → rows_fit (length x.log) x.used ≡ true
 unfolding rows_fit
 fitted x a = le-leb _ _ a
 
-module _ (s : Start) (unrefused : (opened_as s.opening).answer ≡ Opened.Open) where
+module _ (s : Start) (unrefused : (opened_as s.opening).answer ≡ Ok tt) where
   abbrev Spoken : List Row → Type 0
   Spoken rs = Belongs (setting s) rs → length rs * 5 ≤ length s.memory → Leaves s rs
 
@@ -81,6 +81,6 @@ pub same_record : (s t : Start) (a b : Bench) → opened_queue s ≡ opened_queu
 same_record s t a b o h k e = history_ends s a h ∙ (ap (λ (q : Queue). end_of q (rows_of a)) o ∙ (ap (end_of (opened_queue t)) e ∙ sym (history_ends t b k)))
 
 -- the logs of histories are exactly the language: with room for the rows, some history leaves them if and only if they belong
-pub histories_language : (s : Start) (rs : List Row) → (opened_as s.opening).answer ≡ Opened.Open
+pub histories_language : (s : Start) (rs : List Row) → (opened_as s.opening).answer ≡ Ok tt
     → length rs * 5 ≤ length s.memory → Leaves s rs ↔ Belongs (setting s) rs
 histories_language s rs unrefused room = (λ l. subst (λ (x : List Row). Belongs (setting s) x) l.wrote (history_belongs s l.end l.history), λ b. language_spoken s unrefused rs b room)

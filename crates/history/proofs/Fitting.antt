@@ -11,7 +11,6 @@ use Rattle.queue_record.specs.Openings.{scope_of, iterator_of, opened_by, opened
 use Rattle.queue_record.specs.declared.record.Kind.{Kind}
 use Rattle.queue_record.specs.declared.record.Kind.TheVariants.{Scope, Iterator}
 use Rattle.queue_record.specs.declared.record.Queue.{Queue}
-use Rattle.queue_record.specs.declared.openings.Opened.{Opened}
 use Rattle.queue_record.specs.Refusals.{done}
 use Rattle.cleanup_queue.specs.Runs.{Call}
 use Rattle.cleanup_queue.proofs.Upstream.{call_keeps_domain}
@@ -28,9 +27,10 @@ use Rattle.history.proofs.Steps.{step}
 use Rattle.history.proofs.Spoken.{stands}
 use Rattle.history.proofs.Demand.{More, row_more}
 use Rattle.history.proofs.Computed.{made_history}
+use Rattle.std.specs.Prelude.{Ok}
 
 -- a history keeps the opening's domain
-opened_domain : (k : Kind) (domain first : ℕ) (bindings : List ℕ) → (opened_by k domain first bindings).answer ≡ Opened.Open → (opened_by k domain first bindings).queue.domain ≡ domain
+opened_domain : (k : Kind) (domain first : ℕ) (bindings : List ℕ) → (opened_by k domain first bindings).answer ≡ Ok tt → (opened_by k domain first bindings).queue.domain ≡ domain
 unfolding scope_of iterator_of
 opened_domain Scope domain first bindings e = refl
 opened_domain Iterator domain first bindings e = ap (λ (q : Queue). q.domain) (iterator_open domain first bindings e)
@@ -46,7 +46,7 @@ made_more : {a b : Bench} {cs : List Call} → Made a cs b → (c : Call) → nu
 made_more no_call c h = one_call h no_call
 made_more (one_call e m) c h = one_call e (made_more m c h)
 
-module _ (s : Start) (unrefused : (opened_as s.opening).answer ≡ Opened.Open) (word : is_word s.opening.heading.domain ≡ true) where
+module _ (s : Start) (unrefused : (opened_as s.opening).answer ≡ Ok tt) (word : is_word s.opening.heading.domain ≡ true) where
   abbrev Spoken : List Row → Type 0
   Spoken rs = every row_fits rs ≡ true → Belongs (setting s) rs → length rs * 5 ≤ length s.memory → LeftByFitting s rs
 

@@ -9,19 +9,19 @@ use borrow.Author.Tests.{ltb-true, ltb-false, le-ltb}
 use lib.Dec.{ltb}
 use lib.ListN.{length, take, drop}
 use Rattle.choice.proofs.Ways.{hit, miss, if_by, clash}
-use Rattle.queue_record.specs.Refusals.{done, broken}
+use Rattle.queue_record.specs.declared.refusal.Refusal.{Refusal}
+use Rattle.queue_record.specs.Refusals.{refusal_number, result_number}
+use Rattle.queue_record.proofs.Refused.{some_none}
+use Rattle.queue_record.specs.declared.refusal.Refusal.TheVariants.{Broken}
 use Rattle.queue_record.specs.WellFormed.{well_formed}
 use Rattle.queue_record.specs.declared.record.Queue.{Queue}
 use Rattle.queue_decisions.specs.Sequences.{taken_of, refusal_of}
 use Rattle.queue_decisions.proofs.SequenceLaws.{taken_within}
 use Rattle.queue_births.specs.Sequences.{took_as, took_more, registered_all}
-use Rattle.queue_births.specs.declared.births.Registered.{Registered}
-use Rattle.queue_births.specs.declared.births.Registered.TheVariants.{Token, Refused}
 use Rattle.queue_births.specs.declared.sequences.RegisteredAll.{RegisteredAll}
-use Rattle.queue_births.specs.declared.sequences.RegisterAllAnswer.{RegisterAllAnswer}
 use Rattle.queue_births.proofs.SequenceLaws.{all_decided}
 use Rattle.cleanup_queue.specs.Answers.{registered_says}
-use Rattle.cleanup_queue.specs.Orders.{Ground, due, first_due, broken_only}
+use Rattle.cleanup_queue.specs.Orders.{Ground, due, first_refusal, first_due, broken_only}
 use Rattle.cleanup_queue.specs.Runs.{Call, register, after_all}
 use Rattle.cleanup_queue.specs.WholeLists.{registers_of, before_zero}
 use Rattle.cleanup_queue.proofs.ListLaws.{taken_exactly, whole_exactly}
@@ -35,11 +35,14 @@ use Rattle.cleanup_log.proofs.RecordedApart.{register_recorded_apart}
 use Rattle.history.specs.Histories.{Bench, called, number_of, Made, no_call, one_call}
 use Rattle.history.specs.ListedHistories.{stands_at, list_recorded, listed_to, list_answer, first_recorded_order, list_order}
 use Rattle.history.proofs.Written.{refused_stays, accepted_is}
+use Rattle.std.specs.Prelude.{Some, None, Ok, Err}
+use Rattle.queue_record.specs.declared.answered.Answered.{Answered}
+use Rattle.queue_births.specs.Types.{Registered}
 
 -- accepted calls leave in the queue what the plain ones leave
 made_after : {a b : Bench} {cs : List Call} → Made a cs b → b.queue ≡ after_all a.queue cs
 made_after no_call = refl
-made_after (one_call {a} {b} {c} {cs} z m) = made_after m ∙ ap (λ (q : Queue). after_all q cs) (ap (λ (x : Bench). x.queue) (accepted_is a c z).1)
+made_after (one_call {a} {b} {c} {cs} z m) = made_after m ∙ ap (λ (q : Queue). after_all q cs) (ap (λ (x : Bench). x.queue) (accepted_is a c z).2)
 
 made_none : {a b : Bench} → Made a [] b → b ≡ a
 made_none no_call = refl
@@ -54,21 +57,21 @@ module _ (b : Bench) (n : ℕ) (ns : List ℕ) where
 
   -- by the answer to the first
   by_first : (P : Kept RegisteredAll → Type 0)
-      → ((token : ℕ) → one.answer ≡ Token token → P (kept_as (took_more rest.answer) rest.queue rest.used rest.log))
-      → ((refusal given : ℕ) → one.answer ≡ Refused refusal given → P (kept_as (took_as 0 refusal) one.queue one.used one.log))
+      → ((token : ℕ) → one.answer ≡ Ok token → P (kept_as (took_more rest.answer) rest.queue rest.used rest.log))
+      → ((refusal : Refusal) (given : ℕ) → one.answer ≡ Err (refusal, given) → P (kept_as (took_as 0 (Some refusal)) one.queue one.used one.log))
       → P (recorded_in_turn b.queue (n ∷ ns) b.log b.used)
   unfolding recorded_in_turn
   by_first P taken refused = go one.answer refl
     where
       go : (a : Registered) → one.answer ≡ a → P (until_refused_kept one.answer one rest)
-      go (Token token) e = subst P (sym (ap (λ (x : Registered). until_refused_kept x one rest) e)) (taken token e)
-      go (Refused refusal given) e = subst P (sym (ap (λ (x : Registered). until_refused_kept x one rest) e)) (refused refusal given e)
+      go (Ok token) e = subst P (sym (ap (λ (x : Registered). until_refused_kept x one rest) e)) (taken token e)
+      go (Err (refusal, given)) e = subst P (sym (ap (λ (x : Registered). until_refused_kept x one rest) e)) (refused refusal given e)
 
   -- refused, it leaves the bench
-  refused_leaves : (refusal given : ℕ) → one.answer ≡ Refused refusal given → called b (register n) ≡ b
-  refused_leaves refusal given e = refused_stays b (register n) (λ z. register_recorded_apart b.queue b.log b.used n given (e ∙ ap (λ (k : ℕ). Refused k given) (number ∙ z)))
+  refused_leaves : (refusal : Refusal) (given : ℕ) → one.answer ≡ Err (refusal, given) → called b (register n) ≡ b
+  refused_leaves refusal given e = refused_stays b (register n) (λ z. register_recorded_apart b.queue b.log b.used n refusal given e (number ∙ z))
     where
-      number : refusal ≡ number_of b (register n)
+      number : refusal_number refusal ≡ number_of b (register n)
       number = sym (ap (λ (a : Registered). (registered_says a).number) e)
 
 -- so many of a list lead there
@@ -84,7 +87,7 @@ in_turn_made b (n ∷ ns) =
 
 -- and its number is that of the next one there
 abbrev Next : List ℕ → Kept RegisteredAll → Type 0
-Next ns k = k.answer.refusal ≡ first_due (first_recorded_order (stands_at k) (drop k.answer.taken ns))
+Next ns k = result_number k.answer.refusal ≡ first_due (first_recorded_order (stands_at k) (drop k.answer.taken ns))
 
 first_number : (b : Bench) (n : ℕ) (ns : List ℕ) → number_of b (register n) ≡ first_due (first_recorded_order b (n ∷ ns))
 first_number b n ns = register_recorded_number b.queue b.log b.used n
@@ -107,7 +110,7 @@ module _ (b : Bench) (ns : List ℕ) where
   fits = rows_fit (length b.log) b.used
 
   abbrev none : Kept RegisteredAll
-  none = kept_as (took_as 0 broken) b.queue b.used b.log
+  none = kept_as (took_as 0 (Some Broken)) b.queue b.used b.log
 
   unfit_none : fits ≡ false → list_recorded b ns ≡ none
   unfolding register_all_recorded
@@ -136,13 +139,13 @@ module _ (b : Bench) (ns : List ℕ) where
   list_made = by_soundness (Leads b ns) (λ _. no_call) (λ _ _. no_call) (λ _ _. in_turn_made b ns)
 
   -- its number: 1, or that of the recorded register of the next one, behind them
-  pub list_number_lem : (list_answer b ns).refusal ≡ first_due (list_order b ns)
+  pub list_number_lem : result_number (list_answer b ns).refusal ≡ first_due (list_order b ns)
   list_number_lem =
-      by_soundness (λ (k : Kept RegisteredAll). k.answer.refusal ≡ first_due (order_behind k)) (λ f. sym (hit _ (ap not f)))
+      by_soundness (λ (k : Kept RegisteredAll). result_number k.answer.refusal ≡ first_due (order_behind k)) (λ f. sym (hit _ (ap not f)))
       (λ f w. sym (miss _ (ap not f) ∙ hit _ (ap not w))) (λ f w. in_turn_next b ns ∙ sym (miss _ (ap not f) ∙ miss _ (ap not w)))
     where
       order_behind : Kept RegisteredAll → List Ground
-      order_behind k = due broken (not fits) ∷ (broken_only b.queue ++ first_recorded_order (stands_at k) (drop k.answer.taken ns))
+      order_behind k = due Broken (not fits) ∷ (broken_only b.queue ++ first_recorded_order (stands_at k) (drop k.answer.taken ns))
 
   -- ---- how many, and what they leave
   -- decided at once
@@ -178,19 +181,19 @@ module _ (b : Bench) (ns : List ℕ) where
 
   -- not refused exactly if the used rows fit, the record is well formed and all are taken
   abbrev Unrefused : RegisteredAll → Type 0
-  Unrefused r = (r.refusal ≡ done) ↔ ((fits ≡ true) × (sound ≡ true) × (r.taken ≡ length ns))
+  Unrefused r = (r.refusal ≡ None) ↔ ((fits ≡ true) × (sound ≡ true) × (r.taken ≡ length ns))
 
   decided_done : fits ≡ true → sound ≡ true → Unrefused (decided_of (length b.log) b.used ns b.queue.count)
   decided_done f w =
       let all = whole_exactly ns b.queue.count in
       if_by Unrefused (ltb free plain) _ _
-      (λ h. let l : free < plain = ltb-true _ _ h in (λ z. absurd (omega arith), λ a. absurd (omega (arith, a.2, taken_within ns b.queue.count))))
+      (λ h. let l : free < plain = ltb-true _ _ h in (λ z. some_none z, λ a. absurd (omega (arith, a.2, taken_within ns b.queue.count))))
       (λ h. (λ z. (f, w, all.0 z), λ a. all.1 a.2))
 
   pub list_done : Unrefused (list_answer b ns)
   list_done =
-      by_decision (λ (k : Kept RegisteredAll). Unrefused k.answer) (λ f. (λ z. absurd (omega arith), λ a. clash a.0 f))
-      (λ f w. (λ z. absurd (omega arith), λ a. clash a.1 w)) decided_done
+      by_decision (λ (k : Kept RegisteredAll). Unrefused k.answer) (λ f. (λ z. some_none z, λ a. clash a.0 f))
+      (λ f w. (λ z. some_none z, λ a. clash a.1 w)) decided_done
 
   -- none taken changes nothing, neither the record nor the used count nor the log
   pub list_none : (list_answer b ns).taken ≡ 0 → listed_to b ns ≡ b
@@ -203,16 +206,16 @@ module _ (b : Bench) (ns : List ℕ) where
   -- with a row free for each that could be taken, it answers as the plain call
   pub list_as_plain : fits ≡ true → sound ≡ true → (registered_all b.queue ns).answer.taken ≤ free → list_answer b ns ≡ (registered_all b.queue ns).answer
   list_as_plain f w l =
-      let p : (registered_all b.queue ns).answer ≡ took_as plain (refusal_of ns b.queue.count) = ap (λ (r : RegisterAllAnswer). r.answer) (all_decided b.queue ns w) in
+      let p : (registered_all b.queue ns).answer ≡ took_as plain (refusal_of ns b.queue.count) = ap (λ (r : Answered RegisteredAll). r.answer) (all_decided b.queue ns w) in
       ap (λ (k : Kept RegisteredAll). k.answer) (decided f w) ∙ (miss _ (le-ltb free plain (omega (arith, l, ap (λ (r : RegisteredAll). r.taken) p))) ∙ sym p)
 
--- an empty list: none taken, 1 or 0, and never 17
-pub list_empty_lem : (b : Bench) → (list_answer b [] ≡ took_as 0 (first_due (due broken (not (rows_fit (length b.log) b.used)) ∷ broken_only b.queue))) × (listed_to b [] ≡ b)
+-- an empty list: none taken, and refused with 1 or not, but never with 17
+pub list_empty_lem : (b : Bench) → (list_answer b [] ≡ took_as 0 (first_refusal (due Broken (not (rows_fit (length b.log) b.used)) ∷ broken_only b.queue))) × (listed_to b [] ≡ b)
 unfolding recorded_in_turn
 list_empty_lem b = (answer, list_none b [] (ap (λ (r : RegisteredAll). r.taken) answer))
   where
-    answer : list_answer b [] ≡ took_as 0 (first_due (due broken (not (rows_fit (length b.log) b.used)) ∷ broken_only b.queue))
+    answer : list_answer b [] ≡ took_as 0 (first_refusal (due Broken (not (rows_fit (length b.log) b.used)) ∷ broken_only b.queue))
     answer =
-        by_soundness b [] (λ (k : Kept RegisteredAll). k.answer ≡ took_as 0 (first_due (due broken (not (rows_fit (length b.log) b.used)) ∷ broken_only b.queue)))
+        by_soundness b [] (λ (k : Kept RegisteredAll). k.answer ≡ took_as 0 (first_refusal (due Broken (not (rows_fit (length b.log) b.used)) ∷ broken_only b.queue)))
         (λ f. ap (took_as 0) (sym (hit _ (ap not f)))) (λ f w. ap (took_as 0) (sym (miss _ (ap not f) ∙ hit _ (ap not w))))
         (λ f w. ap (took_as 0) (sym (miss _ (ap not f) ∙ miss _ (ap not w))))

@@ -7,8 +7,6 @@ use lib.ListN.{length}
 use Rattle.choice.specs.Choice.{when◌then◌else◌}
 use Rattle.choice.proofs.Ways.{clash}
 use Rattle.queue_record.specs.WellFormed.{marks_fit, is_selected}
-use Rattle.queue_record.specs.declared.record.Selection.{Selection}
-use Rattle.queue_record.specs.declared.record.Selection.TheVariants.{Free, Of}
 use Rattle.queue_record.proofs.Fit.{fit}
 use Rattle.log_language.specs.Readings.{keep}
 use Rattle.log_language.specs.RowKinds.{is}
@@ -19,16 +17,18 @@ use Rattle.log_language.proofs.Pops.{outs, pops_out}
 use Rattle.log_replay.proofs.StateOf.{selected_of}
 use Rattle.history.specs.Histories.{Bench, Start, History, rows_of, setting, out_of}
 use Rattle.history.proofs.Spoken.{Stands, stands, history_belongs}
+use Rattle.std.specs.Prelude.{Option, Some, None}
+use Rattle.queue_record.specs.declared.record.Ticket.{Ticket}
 
 -- ---- at most one undo is out
-out_is : (x : Selection) (f i : Bool) → marks_fit (is_selected x) f i ≡ true → outs (selected_of x f i) ≡ (when i then 1 else 0)
-out_is Free true true h = clash h refl
-out_is Free true false h = refl
-out_is Free false true h = clash h refl
-out_is Free false false h = refl
-out_is (Of t) f true h = refl
-out_is (Of t) true false h = refl
-out_is (Of t) false false h = refl
+out_is : (x : Option Ticket) (f i : Bool) → marks_fit (is_selected x) f i ≡ true → outs (selected_of x f i) ≡ (when i then 1 else 0)
+out_is None true true h = clash h refl
+out_is None true false h = refl
+out_is None false true h = clash h refl
+out_is None false false h = refl
+out_is (Some t) f true h = refl
+out_is (Some t) true false h = refl
+out_is (Some t) false false h = refl
 
 -- as many pops as completes, and one more exactly while an undo is out
 pub history_out : (s : Start) (b : Bench) → History s b → length (keep (is pop) (rows_of b)) ≡ length (keep (is complete) (rows_of b)) + out_of b.queue

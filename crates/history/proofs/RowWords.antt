@@ -1,20 +1,17 @@
 -- The row that a call with 64-bit inputs writes is five words of 64 bits
 use Prim.Native.Nat.{ℕ, ◌<◌, ◌≤◌}
-use mathlib.Core.Path.{◌≡◌, refl, ◌∙◌}
+use mathlib.Core.Path.{◌≡◌, refl, sym, ap, ◌∙◌}
 use mathlib.Core.Bool.{true}
 use mathlib.Core.List.{[], ◌∷◌}
 use native.Mathlib.Omega.{arith}
 use borrow.Author.Tests.{le-leb}
-use Rattle.choice.proofs.Ways.{pass, clash, and_left, and_right}
+use Rattle.choice.proofs.Ways.{pass, and_left, and_right}
 use Rattle.queue_record.specs.WellFormed.{well_formed}
 use Rattle.queue_record.specs.declared.record.Queue.{Queue}
 use Rattle.queue_record.proofs.Fit.{fit, selected_born, selected_before}
 use Rattle.queue_record.proofs.Zeros.{full_below}
 use Rattle.queue_decisions.specs.Slots.{no_more}
-use Rattle.queue_births.specs.declared.births.RegisterAnswer.{RegisterAnswer}
 use Rattle.queue_steps.specs.Attempts.{completed}
-use Rattle.queue_steps.specs.declared.attempts.PopAnswer.{PopAnswer}
-use Rattle.queue_steps.specs.declared.attempts.RetryAnswer.{RetryAnswer}
 use Rattle.queue_stages.specs.Stages.{admitted, ended, cancelled_by}
 use Rattle.cleanup_queue.specs.Runs.{Call, register, land, pop, complete, retry, admit, end, cancel}
 use Rattle.cleanup_queue.proofs.ByCase.{register_by, land_by, pop_by, retry_by}
@@ -25,7 +22,14 @@ use Rattle.log_attempts.specs.Attempts.{pop_entry, retry_entry}
 use Rattle.log_language.specs.Readings.{every}
 use Rattle.cleanup_log.specs.Entries.{entry_of}
 use Rattle.history.specs.Fits.{is_word, fits, row_fits}
-use Rattle.history.proofs.RowOfCall.{settled_row, told_row, cancelled_row}
+use Rattle.history.proofs.RowOfCall.{same_made, no_row, settled_row, told_row, cancelled_row}
+use Rattle.log_entries.specs.Types.{Entry}
+use Rattle.log_rows.specs.declared.Row.{Row}
+use Rattle.queue_record.proofs.Refused.{err_ok}
+use Rattle.std.specs.Prelude.{Some, Ok}
+use Rattle.queue_record.specs.declared.answered.Answered.{Answered}
+use Rattle.queue_births.specs.Types.{Registered}
+use Rattle.queue_steps.specs.Types.{Popped, Retried}
 
 word : (n : ℕ) → n ≤ no_more → is_word n ≡ true
 unfolding is_word
@@ -54,30 +58,44 @@ module _ (q : Queue) (w : well_formed q ≡ true) (l : q.next ≤ no_more) where
   stage_fits : (kind : ℕ) → kind ≤ 7 → row_fits (row_of kind 0 0 0 0) ≡ true
   stage_fits kind k = row_fits_lem kind 0 0 0 0 (word kind (omega arith)) zero_word zero_word zero_word zero_word
 
+  abbrev Fitting : Entry → Type 0
+  Fitting e = (row : Row) → e ≡ Ok (Some row) → row_fits row ≡ true
+
+  -- an entry's row fits where the row that was made does
+  made_fits : {made : Row} → row_fits made ≡ true → Fitting (Ok (Some made))
+  made_fits f row h = ap row_fits (sym (same_made h)) ∙ f
+
   -- whichever the call: where it changes the queue, its row fits
-  pub entry_fits : (c : Call) → fits c ≡ true → (entry_of q c).changed ≡ true → row_fits (entry_of q c).row ≡ true
+  pub entry_fits : (c : Call) → fits c ≡ true → Fitting (entry_of q c)
   entry_fits (register n) f =
-      register_by (λ (r : RegisterAnswer). (birth_entry register_kind n r.answer).changed ≡ true → row_fits (birth_entry register_kind n r.answer).row ≡ true) q n
-      (λ _ h. clash h refl) (λ _ _ _ _. birth_fits_lem register_kind n (omega arith) (first_word n f))
+      register_by (λ (r : Answered Registered). Fitting (birth_entry register_kind n r.answer)) q n
+      (λ _ _ h. err_ok h) (λ _ _ _. made_fits (birth_fits_lem register_kind n (omega arith) (first_word n f)))
   entry_fits (land n) f =
-      land_by (λ (r : RegisterAnswer). (birth_entry land_kind n r.answer).changed ≡ true → row_fits (birth_entry land_kind n r.answer).row ≡ true) q n
-      (λ _ h. clash h refl) (λ _ _ _ _ _. birth_fits_lem land_kind n (omega arith) (first_word n f))
+      land_by (λ (r : Answered Registered). Fitting (birth_entry land_kind n r.answer)) q n
+      (λ _ _ h. err_ok h) (λ _ _ _ _. made_fits (birth_fits_lem land_kind n (omega arith) (first_word n f)))
   entry_fits pop f =
-      pop_by (λ (r : PopAnswer). (pop_entry r.answer).changed ≡ true → row_fits (pop_entry r.answer).row ≡ true) q
-      (λ _ _ h. clash h refl) (λ h. clash h refl)
-      (λ p e token n full room h. ticket_fits_lem pop_kind token q.next (omega arith) (full_below q.count q.slots token (fit q w).slots full) l)
-      (λ p t e full h. let b : t.attempt < q.next = selected_before q t w e in ticket_fits_lem pop_kind t.token t.attempt (omega arith) (selected_born q t w e) (omega arith))
+      pop_by (λ (r : Answered Popped). Fitting (pop_entry r.answer)) q
+      (λ _ _ _ h. err_ok h) (λ _ h. no_row h)
+      (λ p e token n full room. made_fits (ticket_fits_lem pop_kind token q.next (omega arith) (full_below q.count q.slots token (fit q w).slots full) l))
+      (λ p t e full.
+      let b : t.attempt < q.next = selected_before q t w e in made_fits (ticket_fits_lem pop_kind t.token t.attempt (omega arith) (selected_born q t w e) (omega arith)))
   entry_fits (complete t o k) f =
-      λ h.
+      λ row h.
       let g = and_right (is_word t.domain) _ f in
       let u = and_right (is_word t.token) _ g in
       let v = and_right (is_word t.attempt) _ u in
-      rw (settled_row q t o k (completed q t o k).answer)
-      (row_fits_lem complete_kind t.token t.attempt o k (word complete_kind (omega arith)) (and_left (is_word t.token) _ g) (and_left (is_word t.attempt) _ u)
-      (and_left (is_word o) _ v) (first_word k (and_right (is_word o) _ v)))
+      ap row_fits (sym (settled_row q t o k (completed q t o k).answer row h).1)
+      ∙ row_fits_lem complete_kind t.token t.attempt o k (word complete_kind (omega arith)) (and_left (is_word t.token) _ g) (and_left (is_word t.attempt) _ u)
+      (and_left (is_word o) _ v) (first_word k (and_right (is_word o) _ v))
   entry_fits retry f =
-      retry_by (λ (r : RetryAnswer). (retry_entry r.answer).changed ≡ true → row_fits (retry_entry r.answer).row ≡ true) q (λ _ h. clash h refl)
-      (λ _ t e a h. ticket_fits_lem retry_kind t.token q.next (omega arith) (selected_born q t w e) l)
-  entry_fits (admit m) f = λ h. rw (told_row q admit_kind q.phase (admitted q m).queue.phase (admitted q m).answer) (stage_fits admit_kind (omega arith))
-  entry_fits end f = λ h. rw (told_row q end_kind q.phase (ended q).queue.phase (ended q).answer) (stage_fits end_kind (omega arith))
-  entry_fits cancel f = λ h. rw (cancelled_row q q.phase (cancelled_by q).queue.phase (cancelled_by q).answer) (stage_fits cancel_kind (omega arith))
+      retry_by (λ (r : Answered Retried). Fitting (retry_entry r.answer)) q (λ _ _ h. err_ok h)
+      (λ _ t e a. made_fits (ticket_fits_lem retry_kind t.token q.next (omega arith) (selected_born q t w e) l))
+  entry_fits (admit m) f =
+      λ row h.
+      ap row_fits (sym (told_row q admit_kind q.phase (admitted q m).queue.phase (admitted q m).answer row h).1) ∙ stage_fits admit_kind (omega arith)
+  entry_fits end f =
+      λ row h.
+      ap row_fits (sym (told_row q end_kind q.phase (ended q).queue.phase (ended q).answer row h).1) ∙ stage_fits end_kind (omega arith)
+  entry_fits cancel f =
+      λ row h.
+      ap row_fits (sym (cancelled_row q q.phase (cancelled_by q).queue.phase (cancelled_by q).answer row h).1) ∙ stage_fits cancel_kind (omega arith)

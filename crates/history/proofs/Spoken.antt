@@ -10,7 +10,6 @@ use lib.Seq.{drop-drop}
 use Rattle.queue_record.specs.Record.{Sized}
 use Rattle.queue_record.specs.WellFormed.{well_formed}
 use Rattle.queue_record.specs.declared.record.Queue.{Queue}
-use Rattle.queue_record.specs.declared.openings.Opened.{Opened}
 use Rattle.queue_record.proofs.OpenedLaws.{opened_well_formed, opened_sized}
 use Rattle.cleanup_queue.specs.Runs.{Call, after}
 use Rattle.log_rows.specs.Rows.{rows, flat, written}
@@ -32,6 +31,7 @@ use Rattle.log_reader.proofs.Rightly.{opened_state}
 use Rattle.history.specs.Histories.{Bench, bench, Start, History, opens, calls, rows_of, opened_queue, setting}
 use Rattle.log_entries.proofs.NoteLaws.{Put}
 use Rattle.history.proofs.Steps.{Wrote, step}
+use Rattle.std.specs.Prelude.{Ok}
 
 end_more : (q : Queue) (rs : List Row) (r : Row) → end_of q (rs ++ (r ∷ [])) ≡ (replayed (end_of q rs) r).queue
 end_more q [] r = refl
@@ -54,7 +54,7 @@ pub record Stands (s : Start) (b : Bench) : Type 0 where
   pub long : length b.log ≡ length s.memory
   pub behind : drop (b.used * 5) b.log ≡ drop (b.used * 5) s.memory
 
-starts : (s : Start) → (opened_as s.opening).answer ≡ Opened.Open → Stands s (bench (opened_queue s) 0 s.memory)
+starts : (s : Start) → (opened_as s.opening).answer ≡ Ok tt → Stands s (bench (opened_queue s) 0 s.memory)
 unfolding rows
 starts s e = record {
   sound = opened_well_formed s.opening;

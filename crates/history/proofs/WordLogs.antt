@@ -24,6 +24,7 @@ use Rattle.cleanup_queue.proofs.Exactly.{Tight, call_tight, opened_parts, opened
 use Rattle.log_rows.specs.Rows.{rows, flat, flats}
 use Rattle.log_rows.specs.declared.Row.{Row}
 use Rattle.log_rows.proofs.RowList.{rows_length, same_words_lem, words_again}
+use Rattle.log_entries.specs.Noting.{changes}
 use Rattle.log_entries.proofs.NoteLaws.{note_tells}
 use Rattle.log_language.specs.Readings.{every}
 use Rattle.log_language.specs.FirstBad.{WordsBelong}
@@ -66,7 +67,7 @@ given_fits q BenchCall.cancel g = refl
 module _ (b : Bench) (c : Call) (h : number_of b c ≡ done) where
   -- an accepted call leaves the plain call's record
   left_queue : (called b c).queue ≡ after b.queue c
-  left_queue = ap (λ (x : Bench). x.queue) (accepted_is b c h).1
+  left_queue = ap (λ (x : Bench). x.queue) (accepted_is b c h).2
 
   tight_step : Tight b.queue → Tight (called b c).queue
   tight_step t = subst Tight (sym left_queue) (call_tight b.queue t c)
@@ -78,11 +79,11 @@ module _ (b : Bench) (c : Call) (h : number_of b c ≡ done) where
   row_step w l f k =
       let a = accepted_is b c h in
       ⊎_elim
-      (λ s. ap (λ (x : Bench). every row_fits (rows_of x)) (a.1 ∙ benches ((call_changes b.queue c).0 s.0) s.1 s.2) ∙ k)
-      (λ t. ap (λ (x : Bench). every row_fits (rows_of x)) (a.1 ∙ benches refl t.2 t.3)
-      ∙ (ap (every row_fits) (rows_after b (entry_of b.queue c).row t.1 (after b.queue c))
-      ∙ (every_snoc row_fits (rows_of b) (entry_of b.queue c).row ∙ (pass _ k ∙ entry_fits b.queue w l c f t.0))))
-      ((note_tells b.log b.used (entry_of b.queue c)).1 a.0).1
+      (λ s. ap (λ (x : Bench). every row_fits (rows_of x)) (a.2 ∙ benches ((call_changes b.queue c).0 (ap changes s.0)) s.1 s.2) ∙ k)
+      (λ t. ap (λ (x : Bench). every row_fits (rows_of x)) (a.2 ∙ benches refl t.3 t.4)
+      ∙ (ap (every row_fits) (rows_after b t.0 t.2 (after b.queue c))
+      ∙ (every_snoc row_fits (rows_of b) t.0 ∙ (pass _ k ∙ entry_fits b.queue w l c f t.0 t.1))))
+      ((note_tells b.log b.used (entry_of b.queue c)).1 a.0 a.1)
 
 -- ---- calls leave words that belong
 called_history : {s : Start} {a e : Bench} {cs : List BenchCall} → History s a → Called a cs e → History s e

@@ -1,8 +1,7 @@
 -- Calls as a bench makes them, each input a word of 64 bits: an admit names a target, or none
-use Rattle.std.specs.Prelude.{ℕ, ◌≡◌, Bool, true, false, List, [], ◌∷◌}
+use Rattle.std.specs.Prelude.{ℕ, ◌≡◌, Bool, true, false, List, [], ◌∷◌, Ok}
 use Rattle.queue_record.specs.Refusals.{done}
 use Rattle.queue_record.specs.Openings.{Opening, opened_as}
-use Rattle.queue_record.specs.declared.openings.Opened.{Opened}
 use Rattle.queue_record.specs.declared.record.Ticket.{Ticket}
 use Rattle.queue_record.specs.declared.record.Queue.{Queue}
 use Rattle.queue_questions.specs.Questions.{matches}
@@ -54,7 +53,7 @@ pub data Called : Bench → List BenchCall → Bench → Type 0 where
 
 -- an opening of words of 64 bits, which was not refused
 pub record WordOpening (o : Opening) : Type 0 where
-  pub unrefused : (opened_as o).answer ≡ Opened.Open
+  pub unrefused : (opened_as o).answer ≡ Ok tt
   pub domain : is_word o.heading.domain ≡ true
   pub first : is_word o.heading.first ≡ true
   pub bindings : every is_word o.bindings ≡ true

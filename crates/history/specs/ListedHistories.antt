@@ -1,12 +1,13 @@
 -- A whole list registered and recorded, as a bench does it, and the histories in which that happens
-use Rattle.std.specs.Prelude.{ℕ, ◌≡◌, Bool, not, true, List, [], ◌∷◌, ◌++◌, length, drop}
-use Rattle.queue_record.specs.Refusals.{done, broken}
+use Rattle.std.specs.Prelude.{ℕ, ◌≡◌, Bool, not, true, List, [], ◌∷◌, ◌++◌, length, drop, Ok}
+use Rattle.queue_record.specs.Refusals.{done}
+use Rattle.queue_record.specs.declared.refusal.Refusal.TheVariants.{Broken}
 use Rattle.queue_record.specs.Openings.{Opening, opened_as}
-use Rattle.queue_record.specs.declared.openings.Opened.{Opened}
 use Rattle.queue_births.specs.declared.sequences.RegisteredAll.{RegisteredAll}
 use Rattle.cleanup_queue.specs.Orders.{Ground, due, register_order, broken_only}
 use Rattle.cleanup_queue.specs.Runs.{Call}
 use Rattle.log_rows.specs.Appending.{rows_fit}
+use Rattle.log_entries.specs.Noting.{changes}
 use Rattle.log_entries.specs.Keeping.{Kept}
 use Rattle.log_births.specs.Sequences.{register_all_recorded}
 use Rattle.log_language.specs.Readings.{every}
@@ -33,17 +34,17 @@ list_answer b ns = (list_recorded b ns).answer
 -- what refuses the recorded register of the first of some numbers, if there is one
 abbrev pub first_recorded_order : Bench → List ℕ → List Ground
 first_recorded_order b [] = []
-first_recorded_order b (n ∷ ns) = recorded_order (length b.log) b.used (register_order b.queue n) (entry_of b.queue (Call.register n)).changed
+first_recorded_order b (n ∷ ns) = recorded_order (length b.log) b.used (register_order b.queue n) (changes (entry_of b.queue (Call.register n)))
 
 -- 1, of the used rows and of the record, of an empty list too; then as the recorded register of the next one, behind those that were taken
 abbrev pub list_order : Bench → List ℕ → List Ground
 list_order b ns =
-    due broken (not (rows_fit (length b.log) b.used))
+    due Broken (not (rows_fit (length b.log) b.used))
     ∷ (broken_only b.queue ++ first_recorded_order (listed_to b ns) (drop (list_answer b ns).taken ns))
 
 -- ---- histories with lists: a call is accepted; a list stays with what it took, whatever it answers
 pub data ListedHistory (s : Start) : Bench → Type 0 where
-  listed_opens : (opened_as s.opening).answer ≡ Opened.Open → ListedHistory s (bench (opened_as s.opening).queue 0 s.memory)
+  listed_opens : (opened_as s.opening).answer ≡ Ok tt → ListedHistory s (bench (opened_as s.opening).queue 0 s.memory)
   listed_calls : {b : Bench} → ListedHistory s b → (c : Call) → number_of b c ≡ done → ListedHistory s (called b c)
   listed_takes : {b : Bench} → ListedHistory s b → (ns : List ℕ) → ListedHistory s (listed_to b ns)
 

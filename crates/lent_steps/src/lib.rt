@@ -7,28 +7,22 @@ ghost use Rattle.std.specs.Prelude.{◌≡◌};
 ghost use Rattle.queue_steps.specs.Attempts.{popped, completed};
 
 use queue_lent::{complete_lent, pop_lent};
-use queue_record::{Queue, Ticket};
-use queue_steps::{CompleteAnswer, PopAnswer};
+use queue_record::{Answered, Queue, Ticket};
+use queue_steps::{Completed, Popped};
 pub use turns::{TurnAnswer, turn};
 
-pub fn pop_via(q: Queue) -> PopAnswer
+pub fn pop_via(q: Queue) -> Answered<Popped>
     ensures { result ≡ popped q }
 {
-    let mut own = q;
-    let a = pop_lent(&mut own);
-    PopAnswer {
-        answer: a,
-        queue: own,
-    }
+    let mut queue = q;
+    let answer = pop_lent(&mut queue);
+    Answered { answer, queue }
 }
 
-pub fn complete_via(q: Queue, ticket: Ticket, outcome: u64, kept: u64) -> CompleteAnswer
+pub fn complete_via(q: Queue, ticket: Ticket, outcome: u64, kept: u64) -> Answered<Completed>
     ensures { result ≡ completed q ticket outcome kept }
 {
-    let mut own = q;
-    let a = complete_lent(&mut own, ticket, outcome, kept);
-    CompleteAnswer {
-        answer: a,
-        queue: own,
-    }
+    let mut queue = q;
+    let answer = complete_lent(&mut queue, ticket, outcome, kept);
+    Answered { answer, queue }
 }

@@ -6,6 +6,7 @@ use queue_lent::{complete_lent, pop_lent};
 use queue_record::{Queue, Ticket};
 use queue_steps::{Completed, Popped};
 
+// Two answers beside the queue, where Answered has one.
 #[derive(Clone, Copy)]
 pub struct TurnAnswer {
     pub popped: Popped,
@@ -16,12 +17,12 @@ pub struct TurnAnswer {
 pub fn turn(q: Queue, ticket: Ticket, outcome: u64, kept: u64) -> TurnAnswer
     ensures { result ≡ turned q ticket outcome kept }
 {
-    let mut own = q;
-    let a = pop_lent(&mut own);
-    let b = complete_lent(&mut own, ticket, outcome, kept);
+    let mut queue = q;
+    let popped = pop_lent(&mut queue);
+    let completed = complete_lent(&mut queue, ticket, outcome, kept);
     TurnAnswer {
-        popped: a,
-        completed: b,
-        queue: own,
+        popped,
+        completed,
+        queue,
     }
 }

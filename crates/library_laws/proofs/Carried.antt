@@ -10,10 +10,7 @@ use lib.ListN.{length, length-set}
 use Rattle.choice.proofs.Ways.{hit, miss, clash}
 use Rattle.queue_record.specs.Refusals.{done}
 use Rattle.queue_record.specs.declared.record.Queue.{Queue}
-use Rattle.queue_record.specs.declared.record.Selection.TheVariants.{Of}
 use Rattle.queue_record.proofs.Fit.{free_no_marks}
-use Rattle.queue_decisions.specs.declared.pops.Due.{Due}
-use Rattle.queue_steps.specs.declared.attempts.Completed.{Completed}
 use Rattle.queue_steps.specs.Attempts.{due_in, issued_to, popped_as, popped, completed}
 use Rattle.cleanup_queue.proofs.Upstream.{complete_succeeds}
 use Rattle.queue_words.specs.Layout.{at_selected, at_ticket_domain, at_ticket_token, at_ticket_attempt, at_issued, at_case}
@@ -25,14 +22,17 @@ use Rattle.queue_words.proofs.OnWords.{sound_fits, sound_on, sound_length}
 use Rattle.library_laws.specs.CallWords.{pop}
 use Rattle.library_laws.specs.Tickets.{own_ticket, told_ticket}
 use Rattle.library_laws.proofs.Sounds.{sound_after}
+use Rattle.std.specs.Prelude.{Some, None, Ok, Err}
+use Rattle.queue_decisions.specs.Types.{Due}
+use Rattle.queue_steps.specs.Types.{Completed}
 
 -- ---- the queue's own ticket
 module _ (ws : List ℕ) (s : is_sound ws ≡ true) (out : mark_at (word ws at_issued) ≡ true) where
-  own_selected : selection_in ws ≡ Of (ticket_of (word ws at_ticket_domain) (word ws at_ticket_token) (word ws at_ticket_attempt))
+  own_selected : selection_in ws ≡ Some (ticket_of (word ws at_ticket_domain) (word ws at_ticket_token) (word ws at_ticket_attempt))
   unfolding queue_of
   own_selected = by (eqb (word ws at_selected) 0) refl
     where
-      by : (b : Bool) → eqb (word ws at_selected) 0 ≡ b → selection_in ws ≡ Of (ticket_of (word ws at_ticket_domain) (word ws at_ticket_token) (word ws at_ticket_attempt))
+      by : (b : Bool) → eqb (word ws at_selected) 0 ≡ b → selection_in ws ≡ Some (ticket_of (word ws at_ticket_domain) (word ws at_ticket_token) (word ws at_ticket_attempt))
       by true e = clash out (free_no_marks (queue_of ws) (sound_fits ws s) (hit _ e)).1
       by false e = miss _ e
 
@@ -56,9 +56,9 @@ module _ (ws : List ℕ) (s : is_sound ws ≡ true) where
   Out x = word x.answer at_case ≡ 2 → (told_ticket x.answer ≡ own_ticket x.words) × (mark_at (word x.words at_issued) ≡ true)
 
   out : (d : Due) → Out (pop_exported (popped_as (queue_of ws) d))
-  out Due.Nothing e = let z : ◌≡◌ {A = ℕ} 1 2 = e in absurd (omega arith)
-  out (Due.Refused n) e = let z : ◌≡◌ {A = ℕ} 0 2 = e in absurd (omega arith)
-  out (Due.Of t number next) e =
+  out (Ok None) e = let z : ◌≡◌ {A = ℕ} 1 2 = e in absurd (omega arith)
+  out (Err n) e = let z : ◌≡◌ {A = ℕ} 0 2 = e in absurd (omega arith)
+  out (Ok (Some (t, number, next))) e =
       let q : Queue = issued_to (queue_of ws) t next in
       let l : length q.slots ≡ 64 = length-set (queue_of ws).slots t.token 0 ∙ (queue_sized ws (sound_length ws s)).slots in
       let w : List ℕ = words_of q in (

@@ -48,7 +48,7 @@ made_run : (ns : List ℕ) (a b : Bench) → Sized a.queue → Made a (registers
 made_run [] a b z no_call = refl
 made_run (n ∷ ns) a b z (one_call e m) =
     ap (λ (s : Session). session_after_all s (registers_each LibraryCall.records ns)) (register_session a.queue z n a.log a.used)
-    ∙ made_run ns (called a (Call.register n)) b (subst (λ (x : Bench). Sized x.queue) (sym (accepted_is a (Call.register n) e).1) (call_sized a.queue (Call.register n) z)) m
+    ∙ made_run ns (called a (Call.register n)) b (subst (λ (x : Bench). Sized x.queue) (sym (accepted_is a (Call.register n) e).2) (call_sized a.queue (Call.register n) z)) m
 
 -- ---- the call: as many as its answer says
 module _ (s : Session) (ns : List ℕ) where

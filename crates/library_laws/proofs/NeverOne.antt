@@ -10,25 +10,25 @@ use lib.Dec.{eqb}
 use lib.ListN.{length}
 use Rattle.choice.specs.Choice.{when◌then◌else◌}
 use Rattle.choice.proofs.Ways.{hit, miss, clash, and_left, and_right}
-use Rattle.queue_record.specs.Refusals.{broken, too_many_bindings}
+use Rattle.queue_record.specs.declared.refusal.Refusal.{Refusal}
+use Rattle.queue_record.specs.Refusals.{broken, refusal_number}
+use Rattle.queue_record.specs.declared.refusal.Refusal.TheVariants.{Broken, TooManyBindings}
 use Rattle.queue_record.specs.WellFormed.{well_formed}
 use Rattle.queue_record.specs.Openings.{Opening, heading_of, opening_of, opened_as}
 use Rattle.queue_record.specs.declared.record.Kind.TheVariants.{Scope, Iterator}
-use Rattle.queue_record.specs.declared.openings.Opened.{Opened}
 use Rattle.queue_record.proofs.OpenedLaws.{opened_refused}
 use Rattle.queue_births.specs.Births.{registered, landed}
 use Rattle.queue_steps.specs.Attempts.{popped, completed, retried}
 use Rattle.queue_stages.specs.Stages.{admitted, ended, cancelled_by}
 use Rattle.queue_questions.specs.Questions.{matches, is_empty_told, is_issued_told, is_pending_told, is_settled_told, is_cancelled_told, has_failed_told, can_retry_told, can_finish_told, domain_told}
-use Rattle.queue_questions.specs.declared.questions.Told.{Told}
 use Rattle.cleanup_queue.specs.Orders.{Ground, due, first_due, register_order, land_order, pop_order, complete_order, retry_order, broken_only, OnlyBroken}
 use Rattle.cleanup_queue.specs.Runs.{Call}
 use Rattle.cleanup_queue.proofs.Numbers.{register_number, land_number, pop_number, complete_number, retry_number, admit_number, end_number, cancel_number, questions_number, domain_number}
 use Rattle.log_rows.specs.Appending.{rows_fit}
 use Rattle.log_reader.specs.Reader.{ReadsAs, refused_opening, bad_at, good_log}
-use Rattle.log_reader.specs.declared.reading.Reading.{Reading}
 use Rattle.cleanup_log.specs.RecordedOrders.{recorded_order}
 use Rattle.cleanup_log.specs.Entries.{entry_of}
+use Rattle.log_entries.specs.Noting.{changes}
 use Rattle.cleanup_log.proofs.RecordedNumbers.{register_recorded_number, land_recorded_number, pop_recorded_number, complete_recorded_number}
 use Rattle.cleanup_log.proofs.RecordedNumbers.{retry_recorded_number, admit_recorded_number, end_recorded_number, cancel_recorded_number}
 use Rattle.queue_words.specs.Words.{word, ticket_of, queue_of, is_sound}
@@ -45,18 +45,23 @@ use Rattle.library_laws.proofs.Sounds.{call_of}
 use Rattle.library_laws.proofs.Says.{born_tells, pop_tells, complete_tells, retry_tells, told_number, cancel_tells, domain_tells}
 use Rattle.library_laws.proofs.WholeLists.{all_never, all_logged_alone}
 use Rattle.library_laws.proofs.Sessions.{logged_is, from, session_sound}
+use Rattle.std.specs.Prelude.{Ok, Err}
+use Rattle.queue_record.specs.declared.answered.Answered.{Answered}
+use Rattle.log_reader.specs.Types.{Read}
+use Rattle.queue_questions.specs.Types.{Told}
+use Rattle.queue_record.specs.Types.{Opened}
 
 -- ---- an order of refusals without 1
 abbrev without_one : List Ground → Bool
 without_one [] = true
-without_one (d ∷ ds) = not (eqb d.number 1) && without_one ds
+without_one (d ∷ ds) = not (eqb (refusal_number d.refusal) 1) && without_one ds
 
 none_due : (ds : List Ground) → without_one ds ≡ true → first_due ds ≡ broken → ⊥
 none_due [] k e = omega arith
-none_due (d ∷ ds) k e = go d.case e (none_due ds (and_right (not (eqb d.number 1)) (without_one ds) k))
+none_due (d ∷ ds) k e = go d.case e (none_due ds (and_right (not (eqb (refusal_number d.refusal) 1)) (without_one ds) k))
   where
-    go : (b : Bool) → (when b then d.number else first_due ds) ≡ 1 → (first_due ds ≡ 1 → ⊥) → ⊥
-    go true z rest = clash (eq-eqb d.number 1 z) (not-true _ (and_left (not (eqb d.number 1)) (without_one ds) k))
+    go : (b : Bool) → (when b then refusal_number d.refusal else first_due ds) ≡ 1 → (first_due ds ≡ 1 → ⊥) → ⊥
+    go true z rest = clash (eq-eqb (refusal_number d.refusal) 1 z) (not-true _ (and_left (not (eqb (refusal_number d.refusal) 1)) (without_one ds) k))
     go false z rest = rest z
 
 -- the refusals behind the first
@@ -66,7 +71,7 @@ others (d ∷ ds) = ds
 
 module _ (ws : List ℕ) (s : is_sound ws ≡ true) where
   -- of sound words 1 is not due, so that a call whose other refusals are not 1 never says it
-  never : (rest : List Ground) → without_one rest ≡ true → {n : ℕ} → n ≡ first_due (due broken (not (well_formed (queue_of ws))) ∷ rest) → n ≡ broken → ⊥
+  never : (rest : List Ground) → without_one rest ≡ true → {n : ℕ} → n ≡ first_due (due Broken (not (well_formed (queue_of ws))) ∷ rest) → n ≡ broken → ⊥
   never rest k h e = none_due rest k (sym (miss _ (ap not (sound_fits ws s))) ∙ (sym h ∙ e))
 
   -- ---- plain calls
@@ -111,7 +116,7 @@ module _ (ws : List ℕ) (s : is_sound ws ≡ true) where
 
     -- behind the log's own 1 come the queue's refusals, and then 17: 1 exactly where the used rows do not fit the log
     fit_alone : (rest : List Ground) → without_one rest ≡ true → {n : ℕ}
-        → n ≡ first_due (due broken (not (rows_fit (length log) used)) ∷ due broken (not (well_formed (queue_of ws))) ∷ rest) → Unfit n
+        → n ≡ first_due (due Broken (not (rows_fit (length log) used)) ∷ due Broken (not (well_formed (queue_of ws))) ∷ rest) → Unfit n
     fit_alone rest k {n} h = (only (rows_fit (length log) used) refl, λ f. h ∙ hit _ (ap not f))
       where
         only : (b : Bool) → rows_fit (length log) used ≡ b → n ≡ broken → rows_fit (length log) used ≡ false
@@ -120,7 +125,7 @@ module _ (ws : List ℕ) (s : is_sound ws ≡ true) where
 
     -- the order of the recorded call whose own refusals these are, without its two tests for 1
     abbrev behind : List Ground → Call → List Ground
-    behind own c = others (others (recorded_order (length log) used own (entry_of (queue_of ws) c).changed))
+    behind own c = others (others (recorded_order (length log) used own (changes (entry_of (queue_of ws) c))))
 
     numbered : (c : WordCall) → (logged_by (session ws log used) c).call.result ≡ number_of (from ws (sound_encodes ws s) log used) (call_of ws c)
     numbered c = (logged_is ws (sound_encodes ws s) log used c).3
@@ -148,14 +153,14 @@ module _ (ws : List ℕ) (s : is_sound ws ≡ true) where
 open_never : (o : Opening) → open_number (opened_as o).answer ≡ broken → ⊥
 open_never o = go (opened_as o).answer (λ n e. (opened_refused n o e).0)
   where
-    go : (a : Opened) → ((n : ℕ) → a ≡ Opened.Refused n → n ≡ too_many_bindings) → open_number a ≡ broken → ⊥
-    go Opened.Open f e = omega arith
-    go (Opened.Refused n) f e = let y : n ≡ 14 = f n refl in omega arith
+    go : (a : Opened) → ((n : Refusal) → a ≡ Err n → n ≡ TooManyBindings) → open_number a ≡ broken → ⊥
+    go (Ok tt) f e = omega arith
+    go (Err n) f e = let y : refusal_number n ≡ 14 = ap refusal_number (f n refl) in omega arith
 
 -- and the reader with that, or with 16
-read_never : (o : Opening) (log : List ℕ) (r : Reading) (ws : List ℕ) → ReadsAs o log r → (read_said r.answer ws).result ≡ broken → ⊥
-read_never o log r ws (refused_opening {n} h) e = let y : n ≡ 14 = (opened_refused n o h).0 in omega arith
-read_never o log r ws (bad_at place h b) e = omega arith
+read_never : (o : Opening) (log : List ℕ) (r : Answered Read) (ws : List ℕ) → ReadsAs o log r → (read_said r.answer ws).result ≡ broken → ⊥
+read_never o log r ws (refused_opening {n} h) e = let y : refusal_number n ≡ 14 = ap refusal_number (opened_refused n o h).0 in omega arith
+read_never o log r ws (bad_at place h b) e = let z : ◌≡◌ {A = ℕ} 16 1 = e in omega arith
 read_never o log r ws (good_log h b) e = omega arith
 
 read_alone : (ws : List ℕ) (kind domain first : ℕ) (bindings log : List ℕ) (x : Exported) → ReadOn ws kind domain first bindings log x → (x.result ≡ broken) ↔ (1 < kind)

@@ -29,10 +29,8 @@ use Rattle.log_replay.specs.Replay.{replayed}
 use Rattle.log_replay.proofs.RowsKeep.{row_keeps, row_sized}
 use Rattle.log_reader.specs.Walk.{read_from}
 use Rattle.log_reader.specs.Reader.{end_of, ReadsAs, refused_opening, bad_at, good_log}
-use Rattle.log_reader.specs.declared.reading.Read.{Read}
 use Rattle.log_reader.proofs.Rightly.{reads_from}
 use Rattle.log_reader.proofs.Unique.{reads_one}
-use Rattle.log_reader.specs.declared.reading.Reading.{Reading}
 use Rattle.queue_words.specs.Words.{word, ticket_of, queue_of, words_of, encodes, is_sound}
 use Rattle.queue_words.specs.Exported.{Exported, exported, answer_of, born_said, pop_said, complete_said, retry_said, told_said, cancel_said}
 use Rattle.queue_words.proofs.RoundTrip.{words_again, queue_sized, queue_again}
@@ -53,6 +51,9 @@ use Rattle.library_laws.specs.Sessions.{session_after, session_after_all, Record
 use Rattle.library_laws.proofs.Sounds.{call_of, born_words, pop_words, complete_words, retry_words, told_words, cancel_words, sound_after, scope_sound, iterator_sound}
 use Rattle.library_laws.proofs.WholeLists.{all_sound, all_logged_sound, all_logged_to}
 use Rattle.library_laws.proofs.Says.{born_tells, pop_tells, complete_tells, retry_tells, told_number, cancel_tells}
+use Rattle.std.specs.Prelude.{Ok, Err}
+use Rattle.queue_record.specs.declared.answered.Answered.{Answered}
+use Rattle.log_reader.specs.Types.{Read}
 
 -- ---- an exported recorded call on words that encode a record is the bench's recorded call on that record
 abbrev pub Matches : Recorded → Outcome → Type 0
@@ -117,7 +118,7 @@ called_fits b c w z = go (eqb (number_of b c) 0) refl
   where
     go : (d : Bool) → eqb (number_of b c) 0 ≡ d → well_formed (called b c).queue ≡ true × Sized (called b c).queue
     go true e =
-        subst (λ (x : Bench). well_formed x.queue ≡ true × Sized x.queue) (sym (accepted_is b c (eqb-true _ _ e)).1)
+        subst (λ (x : Bench). well_formed x.queue ≡ true × Sized x.queue) (sym (accepted_is b c (eqb-true _ _ e)).2)
         (call_keeps b.queue c w, call_sized b.queue c z)
     go false e = subst (λ (x : Bench). well_formed x.queue ≡ true × Sized x.queue) (sym (refused_stays b c (eqb-false _ _ e))) (w, z)
 
@@ -133,7 +134,7 @@ end_fits : (rs : List Row) (q : Queue) → well_formed q ≡ true → Sized q �
 end_fits [] q w z = (w, z)
 end_fits (r ∷ rs) q w z = end_fits rs (replayed q r).queue (row_keeps q w r) (row_sized q z r)
 
-read_fits : (o : Opening) (log : List ℕ) (r : Reading) → ReadsAs o log r → well_formed r.queue ≡ true × Sized r.queue
+read_fits : (o : Opening) (log : List ℕ) (r : Answered Read) → ReadsAs o log r → well_formed r.queue ≡ true × Sized r.queue
 read_fits o log r (refused_opening {n} e) =
     subst (λ (q : Queue). well_formed q ≡ true × Sized q) (opened_refused n o e).1 (opened_well_formed o, opened_sized o)
 read_fits o log r (bad_at place e b) = end_fits (take place (rows log)) (opened_as o).queue (opened_well_formed o) (opened_sized o)
@@ -143,8 +144,8 @@ read_sound : (o : Opening) (log : List ℕ) → is_sound (words_of (read_from (o
 read_sound o log = let f = read_fits o log (read_from (opened_as o) log) (reads_from o log) in record_sound (read_from (opened_as o) log).queue f.1 f.0
 
 said_words : (a : Read) (ws : List ℕ) → (read_said a ws).words ≡ ws
-said_words (Read.Good n) ws = refl
-said_words (Read.Refused n place) ws = refl
+said_words (Ok n) ws = refl
+said_words (Err (n, place)) ws = refl
 
 session_step : (s : Session) → is_sound s.words ≡ true → (c : LibraryCall) → is_sound (session_after s c).words ≡ true
 session_step s h (opens_scope domain first) = scope_sound domain first
@@ -164,7 +165,7 @@ read_leaves s kind domain first bindings log x (no_kind l) = ap (λ (t : Session
 read_leaves s kind domain first bindings log x (read_back r l a) =
     let o = opening_by kind domain first bindings in
     said_words r.answer (words_of r.queue)
-    ∙ (ap (λ (y : Reading). words_of y.queue) (reads_one o log r (read_from (opened_as o) log) a (reads_from o log))
+    ∙ (ap (λ (y : Answered Read). words_of y.queue) (reads_one o log r (read_from (opened_as o) log) a (reads_from o log))
     ∙ ap (λ (t : Session). t.words) (sym (miss _ (le-ltb 1 kind l))))
 
 -- and nothing else of the session is moved
@@ -232,14 +233,14 @@ lived o memory _ (takes_all {s} r ns) =
     }
 
 -- of the log that recorded calls left the reader says: good, all the rows, and the record that the words encode
-pub recorder_read : (o : Opening) (memory : List ℕ) (s : Session) → Recorder o memory s → (r : Reading) → ReadsAs o (used_words s) r
-    → (r.answer ≡ Read.Good s.used) × (words_of r.queue ≡ s.words)
+pub recorder_read : (o : Opening) (memory : List ℕ) (s : Session) → Recorder o memory s → (r : Answered Read) → ReadsAs o (used_words s) r
+    → (r.answer ≡ Ok s.used) × (words_of r.queue ≡ s.words)
 recorder_read o memory s w r a =
     let l : Lived o memory s = lived o memory s w in
     let e : used_words s ≡ words_written l.bench = ap (λ (n : ℕ). take (n * 5) s.log) l.used ∙ ap (take (l.bench.used * 5)) l.log in
     let g = history_read (record { opening = o; memory = memory }) l.bench l.history r (subst (λ (x : List ℕ). ReadsAs o x r) e a) in (
-      ap (λ (x : Reading). x.answer) g ∙ ap Read.Good (sym l.used),
-      ap (λ (x : Reading). words_of x.queue) g ∙ sym l.words,
+      ap (λ (x : Answered Read). x.answer) g ∙ ap Ok (sym l.used),
+      ap (λ (x : Answered Read). words_of x.queue) g ∙ sym l.words,
     )
 
 -- so the reader for C, lent any words for its queue, says how many rows were used, and leaves the very same words there

@@ -7,14 +7,8 @@ use Rattle.queue_record.specs.Openings.{scope_of, iterator_opened}
 use Rattle.queue_record.proofs.OpenedLaws.{scope_well_formed, scope_sized, opening_well_formed, opening_sized}
 use Rattle.queue_births.specs.Births.{registered, landed}
 use Rattle.queue_steps.specs.Attempts.{popped, completed, retried}
-use Rattle.queue_births.specs.declared.births.Registered.{Registered}
-use Rattle.queue_steps.specs.declared.attempts.Popped.{Popped}
-use Rattle.queue_steps.specs.declared.attempts.Completed.{Completed}
-use Rattle.queue_steps.specs.declared.attempts.Retried.{Retried}
 use Rattle.queue_questions.specs.Questions.{matches}
-use Rattle.queue_questions.specs.declared.questions.Told.{Told}
 use Rattle.queue_stages.specs.Stages.{admitted, ended, cancelled_by}
-use Rattle.queue_stages.specs.declared.stages.Cancelled.{Cancelled}
 use Rattle.cleanup_queue.specs.Runs.{Call, after}
 use Rattle.cleanup_queue.proofs.Keeps.{call_keeps}
 use Rattle.cleanup_queue.proofs.Sizes.{call_sized}
@@ -24,33 +18,38 @@ use Rattle.queue_words.specs.Exported.{complete_on, retry_on, admit_on, admit_wi
 use Rattle.queue_words.proofs.RoundTrip.{queue_sized}
 use Rattle.queue_words.proofs.OnWords.{record_sound, sound_fits, sound_on, sound_length}
 use Rattle.library_laws.specs.CallWords.{WordCall, register, land, pop, complete, retry, admit, admit_without, end, cancel, words_after, words_after_all}
+use Rattle.std.specs.Prelude.{Some, None, Ok, Err}
+use Rattle.queue_births.specs.Types.{Registered}
+use Rattle.queue_questions.specs.Types.{Told}
+use Rattle.queue_stages.specs.Types.{Cancelled}
+use Rattle.queue_steps.specs.Types.{Completed, Popped, Retried}
 
 -- ---- whatever an answer is, the words are those that it was given
 pub born_words : (a : Registered) (ws : List ℕ) → (born_said a ws).words ≡ ws
-born_words (Registered.Token t) ws = refl
-born_words (Registered.Refused n given) ws = refl
+born_words (Ok t) ws = refl
+born_words (Err (n, given)) ws = refl
 
 pub pop_words : (a : Popped) (ws : List ℕ) → (pop_said a ws).words ≡ ws
-pop_words (Popped.Work t n) ws = refl
-pop_words Popped.Nothing ws = refl
-pop_words (Popped.Refused n) ws = refl
+pop_words (Ok (Some (t, n))) ws = refl
+pop_words (Ok None) ws = refl
+pop_words (Err n) ws = refl
 
 pub complete_words : (a : Completed) (ws : List ℕ) → (complete_said a ws).words ≡ ws
-complete_words Completed.Settled ws = refl
-complete_words (Completed.Refused n kept) ws = refl
+complete_words (Ok tt) ws = refl
+complete_words (Err (n, kept)) ws = refl
 
 pub retry_words : (a : Retried) (ws : List ℕ) → (retry_said a ws).words ≡ ws
-retry_words (Retried.Again t) ws = refl
-retry_words (Retried.Refused n) ws = refl
+retry_words (Ok t) ws = refl
+retry_words (Err n) ws = refl
 
 pub told_words : (a : Told) (ws : List ℕ) → (told_said a ws).words ≡ ws
-told_words Told.Yes ws = refl
-told_words Told.No ws = refl
-told_words (Told.Refused n) ws = refl
+told_words (Ok true) ws = refl
+told_words (Ok false) ws = refl
+told_words (Err n) ws = refl
 
 pub cancel_words : (a : Cancelled) (ws : List ℕ) → (cancel_said a ws).words ≡ ws
-cancel_words Cancelled.Done ws = refl
-cancel_words (Cancelled.Refused n) ws = refl
+cancel_words (Ok tt) ws = refl
+cancel_words (Err n) ws = refl
 
 -- the queue's call of which an exported one is
 abbrev pub call_of : List ℕ → WordCall → Call

@@ -9,14 +9,16 @@ use lib.Dec.{eqb, leb, ltb}
 use lib.ListN.{length, take}
 use Rattle.choice.proofs.Ways.{hit, miss, if_by}
 use Rattle.queue_record.specs.Record.{Sized}
-use Rattle.queue_record.specs.Refusals.{broken}
+use Rattle.queue_record.specs.Refusals.{done, broken, result_number}
+use Rattle.queue_record.specs.declared.refusal.Refusal.{Refusal}
+use Rattle.std.specs.Prelude.{Option, Some, None, is_none}
+use Rattle.choice.specs.Choice.{when◌then◌else◌}
 use Rattle.queue_record.specs.WellFormed.{well_formed}
 use Rattle.queue_record.specs.declared.record.Queue.{Queue}
 use Rattle.queue_decisions.specs.Births.{register_refusal}
 use Rattle.queue_decisions.specs.Sequences.{taken_of, refusal_of}
 use Rattle.queue_births.specs.Sequences.{registered_all}
 use Rattle.queue_births.specs.declared.sequences.RegisteredAll.{RegisteredAll}
-use Rattle.queue_births.specs.declared.sequences.RegisterAllAnswer.{RegisterAllAnswer}
 use Rattle.queue_births.proofs.SequenceLaws.{all_decided}
 use Rattle.cleanup_queue.specs.Answers.{says}
 use Rattle.cleanup_queue.specs.Runs.{Call, after_all}
@@ -29,7 +31,7 @@ use Rattle.log_entries.specs.Keeping.{Kept}
 use Rattle.log_births.proofs.SequenceLaws.{decided_of, all_recorded}
 use Rattle.queue_words.specs.Layout.{at_value}
 use Rattle.queue_words.specs.Words.{word, queue_of, words_of, encodes, is_sound}
-use Rattle.queue_words.specs.Exported.{Exported, register_all_on}
+use Rattle.queue_words.specs.Exported.{Exported, exported, born_all_case, born_all_said, register_all_on}
 use Rattle.queue_words.proofs.RoundTrip.{words_again, queue_sized}
 use Rattle.queue_words.proofs.OnWords.{record_sound, sound_encodes, sound_fits, sound_length}
 use Rattle.gulberzan_c.specs.Recorded.{Recorded, recorded_on, register_all_recorded_on}
@@ -38,16 +40,25 @@ use Rattle.history.specs.ListedHistories.{list_recorded, listed_to, list_answer}
 use Rattle.history.proofs.ListMade.{list_queue, list_none, list_number_lem}
 use Rattle.library_laws.specs.Sessions.{Session, session, logged_all, logged_to}
 use Rattle.library_laws.specs.Values.{plain_words, written_as}
-use Rattle.library_laws.proofs.AsCalls.{kept_written}
+use Rattle.library_laws.proofs.AsCalls.{refused_case, kept_written}
+use Rattle.queue_record.specs.declared.answered.Answered.{Answered}
+
+-- a whole list's answer as it is written
+case_is : (r : Option Refusal) → born_all_case r ≡ (when eqb (result_number r) done then 1 else 0)
+case_is None = refl
+case_is (Some n) = refused_case n
+
+all_written : (a : RegisteredAll) (ws : List ℕ) → born_all_said a ws ≡ written_as plain_words (registered_all_says a) ws
+all_written a ws = ap (λ (k : ℕ). exported (result_number a.refusal) (k ∷ a.taken ∷ 0 ∷ 0 ∷ 0 ∷ []) ws) (case_is a.refusal)
 
 -- ---- plain
 module _ (ws ns : List ℕ) where
-  abbrev took : RegisterAllAnswer
+  abbrev took : Answered RegisteredAll
   took = registered_all (queue_of ws) ns
 
   pub all_as_the_call : encodes ws ≡ true → register_all_on ws ns ≡ written_as plain_words (registered_all_says took.answer) (words_of took.queue)
   unfolding register_all_on
-  all_as_the_call e = miss _ (ap not e)
+  all_as_the_call e = miss _ (ap not e) ∙ all_written took.answer (words_of took.queue)
 
   pub all_no_record : encodes ws ≡ false → register_all_on ws ns ≡ written_as plain_words (says broken (0 ∷ [])) ws
   unfolding register_all_on
@@ -76,7 +87,9 @@ module _ (s : Session) (ns : List ℕ) where
 
   pub all_logged_as_the_call : encodes s.words ≡ true → logged_all s ns ≡ kept_written plain_words registered_all_says (list_recorded at ns)
   unfolding register_all_recorded_on
-  all_logged_as_the_call e = miss _ (ap not e)
+  all_logged_as_the_call e =
+      let k = list_recorded at ns in
+      miss _ (ap not e) ∙ ap (λ (x : Exported). recorded_on x k.log k.used) (all_written k.answer (words_of k.queue))
 
   pub all_no_record_logged : encodes s.words ≡ false → logged_all s ns ≡ recorded_on (written_as plain_words (says broken (0 ∷ [])) s.words) s.log s.used
   unfolding register_all_recorded_on
@@ -124,26 +137,29 @@ all_logged_sound s ns h =
 
 -- ---- of sound words 1 is said for the used rows alone
 -- what refuses one number of a list is 2 or 3
-first_apart : (n count : ℕ) → register_refusal n count ≡ broken → ⊥
+first_apart : (n count : ℕ) → result_number (register_refusal n count) ≡ broken → ⊥
 unfolding register_refusal
 first_apart n count =
-    if_by (λ (k : ℕ). k ≡ broken → ⊥) (eqb n 0) _ _ (λ _ e. omega arith)
-    (λ _. if_by (λ (k : ℕ). k ≡ broken → ⊥) (leb 64 count) _ _ (λ _ e. omega arith) (λ _ e. omega arith))
+    if_by (λ (k : Option Refusal). result_number k ≡ broken → ⊥) (eqb n 0) _ _ (λ _ e. let z : ◌≡◌ {A = ℕ} 2 1 = e in omega arith)
+    (λ _. if_by (λ (k : Option Refusal). result_number k ≡ broken → ⊥) (leb 64 count) _ _
+    (λ _ e. let z : ◌≡◌ {A = ℕ} 3 1 = e in omega arith) (λ _ e. let z : ◌≡◌ {A = ℕ} 0 1 = e in omega arith))
 
-refusal_apart : (ns : List ℕ) (count : ℕ) → refusal_of ns count ≡ broken → ⊥
+refusal_apart : (ns : List ℕ) (count : ℕ) → result_number (refusal_of ns count) ≡ broken → ⊥
 unfolding refusal_of
-refusal_apart [] count = λ e. omega arith
-refusal_apart (n ∷ ns) count = if_by (λ (k : ℕ). k ≡ broken → ⊥) (eqb (register_refusal n count) 0) _ _ (λ _. refusal_apart ns (count + 1)) (λ _. first_apart n count)
+refusal_apart [] count = λ e. let z : ◌≡◌ {A = ℕ} 0 1 = e in omega arith
+refusal_apart (n ∷ ns) count =
+    if_by (λ (k : Option Refusal). result_number k ≡ broken → ⊥) (is_none (register_refusal n count)) _ _ (λ _. refusal_apart ns (count + 1)) (λ _. first_apart n count)
 
 pub all_never : (ws ns : List ℕ) → is_sound ws ≡ true → (register_all_on ws ns).result ≡ broken → ⊥
 all_never ws ns s e =
     let q = queue_of ws in
-    let said : (register_all_on ws ns).result ≡ (registered_all q ns).answer.refusal = ap (λ (x : Exported). x.result) (all_as_the_call ws ns (sound_encodes ws s)) in
-    refusal_apart ns q.count (sym (said ∙ ap (λ (r : RegisterAllAnswer). r.answer.refusal) (all_decided q ns (sound_fits ws s))) ∙ e)
+    let said : (register_all_on ws ns).result ≡ result_number (registered_all q ns).answer.refusal = ap (λ (x : Exported). x.result) (all_as_the_call ws ns (sound_encodes ws s)) in
+    refusal_apart ns q.count (sym (said ∙ ap (λ (r : Answered RegisteredAll). result_number r.answer.refusal) (all_decided q ns (sound_fits ws s))) ∙ e)
 
-decided_apart : (words used : ℕ) (ns : List ℕ) (count : ℕ) → (decided_of words used ns count).refusal ≡ broken → ⊥
+decided_apart : (words used : ℕ) (ns : List ℕ) (count : ℕ) → result_number (decided_of words used ns count).refusal ≡ broken → ⊥
 decided_apart words used ns count =
-    if_by (λ (r : RegisteredAll). r.refusal ≡ broken → ⊥) (ltb (free_rows words used) (taken_of ns count)) _ _ (λ _ e. omega arith) (λ _. refusal_apart ns count)
+    if_by (λ (r : RegisteredAll). result_number r.refusal ≡ broken → ⊥) (ltb (free_rows words used) (taken_of ns count)) _ _ (λ _ e. let z : ◌≡◌ {A = ℕ} 17 1 = e in omega arith)
+    (λ _. refusal_apart ns count)
 
 pub all_logged_alone : (s : Session) (ns : List ℕ) → is_sound s.words ≡ true → ((logged_all s ns).call.result ≡ broken) ↔ (rows_fit (length s.log) s.used ≡ false)
 all_logged_alone s ns h = (only (rows_fit (length s.log) s.used) refl, λ f. said ∙ (list_number_lem b ns ∙ hit _ (ap not f)))
@@ -151,11 +167,11 @@ all_logged_alone s ns h = (only (rows_fit (length s.log) s.used) refl, λ f. sai
     b : Bench
     b = at s ns
 
-    said : (logged_all s ns).call.result ≡ (list_answer b ns).refusal
+    said : (logged_all s ns).call.result ≡ result_number (list_answer b ns).refusal
     said = ap (λ (r : Recorded). r.call.result) (all_logged_as_the_call s ns (sound_encodes s.words h))
 
     only : (f : Bool) → rows_fit (length s.log) s.used ≡ f → (logged_all s ns).call.result ≡ broken → rows_fit (length s.log) s.used ≡ false
     only false f e = f
     only true f e =
         let d = all_recorded b.queue ns b.log b.used (sound_fits s.words h) f in
-        absurd (decided_apart (length b.log) b.used ns b.queue.count (sym (ap (λ (k : Kept RegisteredAll). k.answer.refusal) d) ∙ (sym said ∙ e)))
+        absurd (decided_apart (length b.log) b.used ns b.queue.count (sym (ap (λ (k : Kept RegisteredAll). result_number k.answer.refusal) d) ∙ (sym said ∙ e)))

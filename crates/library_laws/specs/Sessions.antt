@@ -1,9 +1,8 @@
 -- A bench that only calls the library: its queue's words, its log's words and its used rows
-use Rattle.std.specs.Prelude.{ℕ, ◌*◌, ◌≡◌, List, [], ◌∷◌, ltb, take}
+use Rattle.std.specs.Prelude.{ℕ, ◌*◌, ◌≡◌, List, [], ◌∷◌, ltb, take, Ok}
 use Rattle.choice.specs.Choice.{when◌then◌else◌}
 use Rattle.queue_record.specs.Refusals.{done}
 use Rattle.queue_record.specs.Openings.{Opening, heading_of, opening_of, scope_opened, iterator_opened, opened_as}
-use Rattle.queue_record.specs.declared.openings.Opened.{Opened}
 use Rattle.log_reader.specs.Walk.{read_from}
 use Rattle.queue_words.specs.Words.{kind_at, words_of}
 use Rattle.queue_words.specs.Exported.{register_all_on}
@@ -75,7 +74,7 @@ registers_each form (number ∷ numbers) = form (WordCall.register number) ∷ r
 -- a session of recorded calls from an opening that was not refused, used count 0, any log memory, each call accepted, and each whole list
 -- with whatever it answers
 pub data Recorder (o : Opening) (memory : List ℕ) : Session → Type 0 where
-  begins : (opened_as o).answer ≡ Opened.Open → Recorder o memory (session (words_of (opened_as o).queue) memory 0)
+  begins : (opened_as o).answer ≡ (Ok tt) → Recorder o memory (session (words_of (opened_as o).queue) memory 0)
   goes_on : {s : Session} → Recorder o memory s → (c : WordCall) → (logged_by s c).call.result ≡ done → Recorder o memory (logged_to (logged_by s c))
   takes_all : {s : Session} → Recorder o memory s → (numbers : List ℕ) → Recorder o memory (logged_to (logged_all s numbers))
 

@@ -4,9 +4,10 @@ use Rattle.choice.specs.Choice.{when◌then◌else◌}
 use Rattle.queue_record.specs.Refusals.{done}
 use Rattle.cleanup_queue.specs.Answers.{Said, says}
 use Rattle.log_reader.specs.Reader.{read_says}
-use Rattle.log_reader.specs.declared.reading.Reading.{Reading}
 use Rattle.queue_words.specs.Words.{word, words_of}
 use Rattle.queue_words.specs.Exported.{Exported, exported}
+use Rattle.queue_record.specs.declared.answered.Answered.{Answered}
+use Rattle.log_reader.specs.Types.{Read}
 
 -- R138: an answer's values, with 0 where there are fewer than four
 abbrev pub padded : List ℕ → List ℕ
@@ -38,5 +39,5 @@ abbrev pub written_as : (Said → List ℕ) → Said → List ℕ → Exported
 written_as form s ws = exported s.number (form s) ws
 
 -- the reader: its number, the rows or the place, and the words of the queue that it gives
-abbrev pub read_written : Reading → Exported
+abbrev pub read_written : Answered Read → Exported
 read_written r = written_as plain_words (says (read_says r.answer).0 ((read_says r.answer).1 ∷ [])) (words_of r.queue)

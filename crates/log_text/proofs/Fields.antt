@@ -1,11 +1,11 @@
 -- Numbers with their commas, one more at a time
 use Prim.Native.Nat.{ℕ, ◌+◌, ◌*◌, ◌≤◌, ◌<◌}
-use mathlib.Core.Path.{◌≡◌, sym, ap, ◌∙◌, subst}
+use mathlib.Core.Path.{◌≡◌, sym, ap, ◌∙◌}
 use mathlib.Core.List.{List, [], ◌∷◌, ◌++◌, append_assoc, append-nil}
 use native.Mathlib.Omega.{arith}
 use native.Mathlib.Numerals.{add-one}
 use lib.ListN.{length, take, drop, get_or, length-append, take-append-drop}
-use lib.Seq.{take-suc, take_all, length-take-le}
+use lib.Seq.{take-suc, length-take-le}
 use Rattle.csv_lines.specs.Form.{decimal, field}
 use Rattle.log_text.specs.Report.{pasted, fields}
 use Rattle.log_text.proofs.KitDigits.{decimal_short}
@@ -39,12 +39,6 @@ put_next d from ns i at out r o p h a b l =
     let n : length (fields (take (i + 1) ns)) ≡ length (fields (take i ns) ++ field (get_or ns i 0)) = ap length f in
     let j = puts_join d from (fields (take i ns)) (field (get_or ns i 0)) at out r o p.place p.bytes a b (omega arith) in
     record { place = j.0 ∙ ap (λ (fs : List ℕ). from + length fs) (sym f); bytes = j.1 ∙ ap (pasted d from) (sym f) }
-
-pub put_all : (d : List ℕ) (from : ℕ) (ns : List ℕ) (i at : ℕ) (out : List ℕ) → Put d from (take i ns) at out → length ns ≤ i
-    → (at ≡ from + length (fields ns)) × (out ≡ pasted d from (fields ns))
-put_all d from ns i at out p h =
-    let e : take i ns ≡ ns = take_all i ns h in
-    subst (λ (fs : List ℕ). (at ≡ from + length (fields fs)) × (out ≡ pasted d from (fields fs))) e (p.place, p.bytes)
 
 pub put_start : (d : List ℕ) (from : ℕ) → Put d from [] from d
 unfolding pasted

@@ -1,24 +1,11 @@
--- Bytes put over others: piece by piece is all at once
-use Prim.Native.Nat.{ℕ, ◌+◌, ◌-◌, ◌≤◌, ◌<◌}
+-- Bytes put over others: two pieces are as one, and what room is left
+use Prim.Native.Nat.{ℕ, ◌+◌, ◌-◌, ◌≤◌}
 use mathlib.Core.Path.{◌≡◌, sym, ap, ◌∙◌}
 use mathlib.Core.List.{List, ◌++◌, append_assoc}
 use native.Mathlib.Omega.{arith}
-use native.Mathlib.Numerals.{add-one}
-use lib.ListN.{length, take, drop, get_or, set, length-append, length-drop}
-use lib.Seq.{paste, paste-suc, length-paste, take-length, length-take-le, take_at, drop-drop, drop_at}
+use lib.ListN.{length, take, drop, length-append, length-drop}
+use lib.Seq.{length-take-le, take_at, drop-drop, drop_at}
 use Rattle.log_text.specs.Report.{pasted}
-
-paste_whole : (d : List ℕ) (at : ℕ) (s : List ℕ) → paste d at s (length s) ≡ pasted d at s
-unfolding pasted
-paste_whole d at s = append_assoc (take at d) (take (length s) s) (drop (at + length s) d) ∙ ap (λ (r : List ℕ). take at d ++ (r ++ drop (at + length s) d)) (take-length s)
-
--- one byte more
-pub paste_next : (d : List ℕ) (at : ℕ) (s : List ℕ) (j : ℕ) (now : List ℕ) → now ≡ paste d at s j → at + length s ≤ length d → j < length s
-    → set now (at + j) (get_or s j 0) ≡ paste d at s (j + 1)
-paste_next d at s j now e h i = rw (e, add-one j) (paste-suc d at s j 0 (omega arith) i)
-
-pub paste_length : (d : List ℕ) (at : ℕ) (s : List ℕ) (j : ℕ) (now : List ℕ) → now ≡ paste d at s j → at + length s ≤ length d → j ≤ length s → length now ≡ length d
-paste_length d at s j now e h i = ap length e ∙ length-paste d at s j (omega arith) i
 
 pub pasted_length : (d : List ℕ) (at : ℕ) (s : List ℕ) → at + length s ≤ length d → length (pasted d at s) ≡ length d
 unfolding pasted
@@ -45,9 +32,6 @@ pasted_join d at x y h =
     ∙ (ap (drop (length y)) (drop_at (take at d ++ x) (drop (at + length x) d) (at + length x) p)
     ∙ (drop-drop (length y) (at + length x) d ∙ ap (λ k. drop k d) n))) in
     rw (f, b) (append_assoc (take at d) x (y ++ drop (at + length (x ++ y)) d) ∙ ap (λ (r : List ℕ). take at d ++ r) (sym (append_assoc x y (drop (at + length (x ++ y)) d))))
-
-pub paste_done : (d : List ℕ) (at : ℕ) (s : List ℕ) (j : ℕ) (now : List ℕ) → now ≡ paste d at s j → j ≤ length s → length s ≤ j → now ≡ pasted d at s
-paste_done d at s j now e i l = let n : j ≡ length s = omega arith in e ∙ (ap (paste d at s) n ∙ paste_whole d at s)
 
 -- two calls, one behind the other
 pub puts_join : (d : List ℕ) (at : ℕ) (x y : List ℕ) (r₁ : ℕ) (o₁ : List ℕ) (r₂ : ℕ) (o₂ : List ℕ)

@@ -8,6 +8,7 @@ pub fn read_full<R: Read>(input: &mut R, space: &mut [u8]) -> usize
     ensures { result ≤ length space.new }
 {
     let mut count = 0;
+    // No index is counted: each read says how many bytes came, so there is no range to go over.
     while count < space.len() {
         let got = match input.read(&mut space[count..]) {
             Ok(more) => more,

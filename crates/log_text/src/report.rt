@@ -17,17 +17,15 @@ pub struct Figures {
 }
 
 // The place behind is handed back: what comes next goes there.
+#[tactic(auto, unfolding(crate::specs::Report::pasted))]
 fn put(out: &mut [u8], at: usize, bytes: &[u8]) -> usize
     requires { at + length bytes.now ≤ length out.old }
     ensures value { result ≡ at + length bytes.now }
     ensures out_after { out.new ≡ pasted out.old at bytes.now }
 {
-    let mut i = 0;
-    while i < bytes.len() {
-        out[at + i] = bytes[i];
-        i += 1;
-    }
-    at + bytes.len()
+    let end = at + bytes.len();
+    out[at..end].copy_from_slice(bytes);
+    end
 }
 
 // No number of the answer stands alone: a comma or the line's end goes with it.
@@ -49,10 +47,8 @@ fn put_fields(out: &mut [u8], from: usize, numbers: &[u64]) -> usize
     ensures out_after { out.new ≡ pasted out.old from (fields numbers.now) }
 {
     let mut at = from;
-    let mut i = 0;
-    while i < numbers.len() {
-        at = put_number(out, at, numbers[i], b",");
-        i += 1;
+    for number in numbers {
+        at = put_number(out, at, *number, b",");
     }
     at
 }

@@ -1,12 +1,12 @@
 -- Each registered in turn is what is decided at once: so many taken, a token more for each of them
 use Prim.Native.Nat.{ℕ, suc, ◌+◌, ◌<◌, ◌≤◌}
 use mathlib.Core.Path.{◌≡◌, refl, sym, ap, ◌∙◌}
-use mathlib.Core.Bool.{Bool, true, false, not}
+use mathlib.Core.Bool.{true, not}
 use mathlib.Core.List.{List, [], ◌∷◌}
-use borrow.Author.Tests.{eq-eqb, ne_eqb, eqb-true, eqb-false}
-use lib.Dec.{eqb}
+use Rattle.std.specs.Prelude.{Option, Some, None}
 use lib.ListN.{length, take, drop, get_or, drop_of_length-le}
-use Rattle.choice.proofs.Ways.{hit, miss}
+use Rattle.choice.proofs.Ways.{miss}
+use Rattle.queue_record.specs.declared.refusal.Refusal.{Refusal}
 use Rattle.queue_record.specs.WellFormed.{well_formed}
 use Rattle.queue_record.specs.declared.record.Queue.{Queue}
 use Rattle.queue_decisions.specs.Births.{register_refusal}
@@ -16,9 +16,10 @@ use Rattle.queue_decisions.proofs.BirthLaws.{register_room}
 use Rattle.queue_decisions.proofs.SequenceLaws.{next_first, taken_one, taken_none, refusal_behind, refusal_here, sequence_taken, sequence_refusal}
 use Rattle.queue_births.specs.Births.{born, refused_birth, grown, born_by, registered}
 use Rattle.queue_births.specs.Sequences.{took_as, took_none, until_refused, in_turn, registered_all, grown_all}
-use Rattle.queue_births.specs.declared.births.RegisterAnswer.{RegisterAnswer}
-use Rattle.queue_births.specs.declared.sequences.RegisterAllAnswer.{RegisterAllAnswer}
 use Rattle.queue_births.proofs.Grown.{grown_fits}
+use Rattle.queue_record.specs.declared.answered.Answered.{Answered}
+use Rattle.queue_births.specs.Types.{Registered}
+use Rattle.queue_births.specs.declared.sequences.RegisteredAll.{RegisteredAll}
 
 -- ---- register of a well-formed record is what its decision says
 module _ (q : Queue) (n : ℕ) (w : well_formed q ≡ true) where
@@ -26,14 +27,14 @@ module _ (q : Queue) (n : ℕ) (w : well_formed q ≡ true) where
   unfolding registered
   registered_by = miss _ (ap not w)
 
-  pub registered_born : register_refusal n q.count ≡ 0 → registered q n ≡ born q (grown q n)
-  registered_born e = registered_by ∙ hit _ (eq-eqb _ _ e)
+  pub registered_born : register_refusal n q.count ≡ None → registered q n ≡ born q (grown q n)
+  registered_born e = registered_by ∙ ap (born_by q n (grown q n)) e
 
-  pub registered_refused : (register_refusal n q.count ≡ 0 → ⊥) → registered q n ≡ refused_birth q (register_refusal n q.count) n
-  registered_refused e = registered_by ∙ miss _ (ne_eqb _ _ e)
+  pub registered_refused : (r : Refusal) → register_refusal n q.count ≡ Some r → registered q n ≡ refused_birth q r n
+  registered_refused r e = registered_by ∙ ap (born_by q n (grown q n)) e
 
--- so many taken of a list, and the number that refuses the next one
-abbrev pub took_of : Queue → List ℕ → ℕ → ℕ → RegisterAllAnswer
+-- so many taken of a list, and what refuses the next one
+abbrev pub took_of : Queue → List ℕ → ℕ → Option Refusal → Answered RegisteredAll
 took_of q numbers taken refusal = record { answer = took_as taken refusal; queue = grown_all q (take taken numbers) }
 
 grown_none : (q : Queue) → grown_all q [] ≡ q
@@ -45,13 +46,13 @@ unfolding in_turn taken_of refusal_of grown_all
 none_left q = refl
 
 -- one more in front
-took_more_lem : (q : Queue) (n : ℕ) (ns : List ℕ) (t r : ℕ)
+took_more_lem : (q : Queue) (n : ℕ) (ns : List ℕ) (t : ℕ) (r : Option Refusal)
     → until_refused (born q (grown q n)).answer (grown q n) (took_of (grown q n) ns t r) ≡ took_of q (n ∷ ns) (suc t) r
 unfolding grown_all
 took_more_lem q n ns t r = refl
 
 -- by a step's answer and record, whatever the step
-abbrev onward : RegisterAnswer → List ℕ → RegisterAllAnswer
+abbrev onward : Answered Registered → List ℕ → Answered RegisteredAll
 onward step ns = until_refused step.answer step.queue (in_turn step.queue ns)
 
 onward_is : (q : Queue) (n : ℕ) (ns : List ℕ) → in_turn q (n ∷ ns) ≡ onward (registered q n) ns
@@ -64,32 +65,32 @@ module _ (q : Queue) (n : ℕ) (ns : List ℕ) (w : well_formed q ≡ true)
   abbrev Decided : Type 0
   Decided = in_turn q (n ∷ ns) ≡ took_of q (n ∷ ns) (taken_of (n ∷ ns) q.count) (refusal_of (n ∷ ns) q.count)
 
-  first_taken : register_refusal n q.count ≡ 0 → Decided
+  first_taken : register_refusal n q.count ≡ None → Decided
   first_taken e =
       onward_is q n ns
-      ∙ (ap (λ (r : RegisterAnswer). onward r ns) (registered_born q n w e)
+      ∙ (ap (λ (r : Answered Registered). onward r ns) (registered_born q n w e)
       ∙ (ap (until_refused (born q (grown q n)).answer (grown q n)) (rest (grown_fits q n w (register_room n q.count e)))
       ∙ (took_more_lem q n ns (taken_of ns (q.count + 1)) (refusal_of ns (q.count + 1))
       ∙ (ap (λ (t : ℕ). took_of q (n ∷ ns) t (refusal_of ns (q.count + 1))) (sym (taken_one n ns q.count e))
       ∙ ap (took_of q (n ∷ ns) (taken_of (n ∷ ns) q.count)) (sym (refusal_behind n ns q.count e))))))
 
-  first_refused : (register_refusal n q.count ≡ 0 → ⊥) → Decided
-  first_refused e =
+  first_refused : (r : Refusal) → register_refusal n q.count ≡ Some r → Decided
+  first_refused r e =
       onward_is q n ns
-      ∙ (ap (λ (r : RegisterAnswer). onward r ns) (registered_refused q n w e)
-      ∙ (none_grown (register_refusal n q.count)
-      ∙ (ap (λ (t : ℕ). took_of q (n ∷ ns) t (register_refusal n q.count)) (sym (taken_none n ns q.count e))
-      ∙ ap (took_of q (n ∷ ns) (taken_of (n ∷ ns) q.count)) (sym (refusal_here n ns q.count e)))))
+      ∙ (ap (λ (a : Answered Registered). onward a ns) (registered_refused q n w r e)
+      ∙ (none_grown (Some r)
+      ∙ (ap (took_of q (n ∷ ns) 0) (sym (refusal_here n ns q.count r e ∙ e))
+      ∙ ap (λ (t : ℕ). took_of q (n ∷ ns) t (refusal_of (n ∷ ns) q.count)) (sym (taken_none n ns q.count r e)))))
     where
-      none_grown : (r : ℕ) → took_none q r ≡ took_of q (n ∷ ns) 0 r
-      none_grown r = ap (λ (p : Queue). record { answer = took_as 0 r; queue = p }) (sym (grown_none q))
+      none_grown : (o : Option Refusal) → took_none q o ≡ took_of q (n ∷ ns) 0 o
+      none_grown o = ap (λ (p : Queue). record { answer = took_as 0 o; queue = p }) (sym (grown_none q))
 
   first_decided : Decided
-  first_decided = by (eqb (register_refusal n q.count) 0) refl
+  first_decided = by (register_refusal n q.count) refl
     where
-      by : (b : Bool) → eqb (register_refusal n q.count) 0 ≡ b → Decided
-      by true h = first_taken (eqb-true _ _ h)
-      by false h = first_refused (eqb-false _ _ h)
+      by : (o : Option Refusal) → register_refusal n q.count ≡ o → Decided
+      by None e = first_taken e
+      by (Some r) e = first_refused r e
 
 pub in_turn_decided : (q : Queue) (ns : List ℕ) → well_formed q ≡ true → in_turn q ns ≡ took_of q ns (taken_of ns q.count) (refusal_of ns q.count)
 in_turn_decided q [] w = none_left q

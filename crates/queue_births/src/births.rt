@@ -3,28 +3,17 @@ ghost use Rattle.std.specs.Prelude.{◌<◌, ◌≡◌};
 ghost use Rattle.queue_births.specs.Births.{refused_birth, grown, registered, landed};
 
 use queue_decisions::{land_refusal, register_refusal};
-use queue_record::refusal::BROKEN;
-use queue_record::{Queue, move_to, well_formed};
+use queue_record::{Answered, Queue, Refusal, move_to, well_formed};
 use stage::Event;
 
-#[derive(Clone, Copy)]
-pub enum Registered {
-    Token(u64),
-    // The refusal's number, and the undo number given.
-    Refused(u64, u64),
-}
+// The token; or what refused it, and the undo number given.
+pub type Registered = Result<u64, (Refusal, u64)>;
 
-#[derive(Clone, Copy)]
-pub struct RegisterAnswer {
-    pub answer: Registered,
-    pub queue: Queue,
-}
-
-fn refused(q: Queue, refusal: u64, number: u64) -> RegisterAnswer
+fn refused(q: Queue, refusal: Refusal, number: u64) -> Answered<Registered>
     ensures { result ≡ refused_birth q refusal number }
 {
-    RegisterAnswer {
-        answer: Registered::Refused(refusal, number),
+    Answered {
+        answer: Err((refusal, number)),
         queue: q,
     }
 }
@@ -42,41 +31,39 @@ pub fn grow(q: Queue, number: u64) -> Queue
     after
 }
 
-pub fn register(q: Queue, number: u64) -> RegisterAnswer
+pub fn register(q: Queue, number: u64) -> Answered<Registered>
     ensures { result ≡ registered q number }
 {
     if !well_formed(q) {
-        return refused(q, BROKEN, number);
+        return refused(q, Refusal::Broken, number);
     }
-    let refusal = register_refusal(number, q.count);
-    if refusal != 0 {
+    if let Some(refusal) = register_refusal(number, q.count) {
         return refused(q, refusal, number);
     }
     let token = q.count;
     let after = grow(q, number);
-    RegisterAnswer {
-        answer: Registered::Token(token),
+    Answered {
+        answer: Ok(token),
         queue: after,
     }
 }
 
 // R40: as register, and moves the stage.
-pub fn land(q: Queue, number: u64) -> RegisterAnswer
+pub fn land(q: Queue, number: u64) -> Answered<Registered>
     ensures { result ≡ landed q number }
 {
     if !well_formed(q) {
-        return refused(q, BROKEN, number);
+        return refused(q, Refusal::Broken, number);
     }
     let phase = q.phase;
-    let refusal = land_refusal(number, phase, q.count);
-    if refusal != 0 {
+    if let Some(refusal) = land_refusal(number, phase, q.count) {
         return refused(q, refusal, number);
     }
     let token = q.count;
     let born = grow(q, number);
     let after = move_to(born, stage::next_phase(phase, Event::Land));
-    RegisterAnswer {
-        answer: Registered::Token(token),
+    Answered {
+        answer: Ok(token),
         queue: after,
     }
 }

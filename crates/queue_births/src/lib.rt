@@ -4,5 +4,5 @@
 mod births;
 mod sequences;
 
-pub use births::{RegisterAnswer, Registered, land, register};
-pub use sequences::{RegisterAllAnswer, RegisteredAll, grow_all, register_all};
+pub use births::{Registered, land, register};
+pub use sequences::{RegisteredAll, grow_all, register_all};

@@ -4,20 +4,13 @@ ghost use Rattle.queue_births.specs.Sequences.{grown_all, registered_all};
 
 use crate::births::grow;
 use queue_decisions::{Taking, register_taking};
-use queue_record::refusal::BROKEN;
-use queue_record::{Queue, well_formed};
+use queue_record::{Answered, Queue, Refusal, well_formed};
 
-// How many were taken, and what refused the next one, or the whole list; 0 where nothing did.
+// How many were taken, and what refused the next one, or the whole list: both are said, so this is no Result.
 #[derive(Clone, Copy)]
 pub struct RegisteredAll {
     pub taken: u64,
-    pub refusal: u64,
-}
-
-#[derive(Clone, Copy)]
-pub struct RegisterAllAnswer {
-    pub answer: RegisteredAll,
-    pub queue: Queue,
+    pub refusal: Option<Refusal>,
 }
 
 // A token more for each number.
@@ -26,23 +19,21 @@ pub fn grow_all(q: Queue, numbers: &[u64]) -> Queue
     ensures { result ≡ grown_all q numbers.now }
 {
     let mut after = q;
-    let mut i = 0;
-    while i < numbers.len() {
-        after = grow(after, numbers[i]);
-        i += 1;
+    for number in numbers {
+        after = grow(after, *number);
     }
     after
 }
 
 // The record is looked at once, and not for each number.
-pub fn register_all(q: Queue, numbers: &[u64]) -> RegisterAllAnswer
+pub fn register_all(q: Queue, numbers: &[u64]) -> Answered<RegisteredAll>
     ensures { result ≡ registered_all q numbers.now }
 {
     if !well_formed(q) {
-        return RegisterAllAnswer {
+        return Answered {
             answer: RegisteredAll {
                 taken: 0,
-                refusal: BROKEN,
+                refusal: Some(Refusal::Broken),
             },
             queue: q,
         };
@@ -51,9 +42,9 @@ pub fn register_all(q: Queue, numbers: &[u64]) -> RegisterAllAnswer
     let taken = taking.taken;
     let copy = taking.numbers;
     let after = grow_all(q, &copy[..taken as usize]);
-    RegisterAllAnswer {
+    Answered {
         answer: RegisteredAll {
-            taken: taken,
+            taken,
             refusal: taking.refusal,
         },
         queue: after,

@@ -6,10 +6,11 @@ use native.Mathlib.Omega.{arith}
 use borrow.Author.Tests.{eq-eqb, eqb-true, ltb-false, not-false}
 use lib.Dec.{eqb, ltb}
 use Rattle.choice.proofs.Ways.{pass, and_left, and_right, clash, if_by}
+use Rattle.queue_record.specs.declared.refusal.Refusal.{Refusal}
+use Rattle.queue_record.proofs.Refused.{some_none}
 use Rattle.queue_record.specs.declared.record.Ticket.{Ticket}
-use Rattle.queue_record.specs.declared.record.Selection.{Selection}
-use Rattle.queue_record.specs.declared.record.Selection.TheVariants.{Free, Of}
 use Rattle.queue_decisions.specs.Answers.{same_ticket, selects, is_out, keeps_on_done, complete_refusal}
+use Rattle.std.specs.Prelude.{Option, Some, None}
 
 abbrev made : ℕ → ℕ → ℕ → Ticket
 made x y z = record { domain = x; token = y; attempt = z }
@@ -27,16 +28,16 @@ same_one s t h =
 pub same_self : (t : Ticket) → same_ticket t t ≡ true
 same_self t = pass _ (eq-eqb t.domain t.domain refl) ∙ (pass _ (eq-eqb t.token t.token refl) ∙ eq-eqb t.attempt t.attempt refl)
 
-selects_one : (s : Selection) (t : Ticket) → selects s t ≡ true → s ≡ Of t
-selects_one Free t h = clash h refl
-selects_one (Of s) t h = ap Of (same_one s t h)
+selects_one : (s : Option Ticket) (t : Ticket) → selects s t ≡ true → s ≡ Some t
+selects_one None t h = clash h refl
+selects_one (Some s) t h = ap Some (same_one s t h)
 
-module _ (issued : Bool) (s : Selection) (t : Ticket) where
+module _ (issued : Bool) (s : Option Ticket) (t : Ticket) where
   module _ (h : is_out issued s t ≡ true) where
     pub out_issued : issued ≡ true
     out_issued = and_left issued (selects s t) h
 
-    pub out_selected : s ≡ Of t
+    pub out_selected : s ≡ Some t
     out_selected = selects_one s t (and_right issued (selects s t) h)
 
   -- what an answer is that nothing refuses
@@ -46,12 +47,12 @@ module _ (issued : Bool) (s : Selection) (t : Ticket) where
     pub keeps : keeps_on_done outcome kept ≡ false
 
   module _ (outcome kept : ℕ) where
-    abbrev Fine : ℕ → Type 0
-    Fine n = n ≡ 0 → Answers outcome kept
+    abbrev Fine : Option Refusal → Type 0
+    Fine r = r ≡ None → Answers outcome kept
 
     pub complete_fine : Fine (complete_refusal issued s t outcome kept)
     unfolding complete_refusal
     complete_fine =
-        if_by Fine (ltb 1 outcome) _ _ (λ _ z. absurd (omega arith))
-        (λ o. if_by Fine (not (is_out issued s t)) _ _ (λ _ z. absurd (omega arith))
-        (λ u. if_by Fine (keeps_on_done outcome kept) _ _ (λ _ z. absurd (omega arith)) (λ k _. record { known = ltb-false _ _ o; out = not-false _ u; keeps = k })))
+        if_by Fine (ltb 1 outcome) _ _ (λ _ z. some_none z)
+        (λ o. if_by Fine (not (is_out issued s t)) _ _ (λ _ z. some_none z)
+        (λ u. if_by Fine (keeps_on_done outcome kept) _ _ (λ _ z. some_none z) (λ k _. record { known = ltb-false _ _ o; out = not-false _ u; keeps = k })))

@@ -1,14 +1,15 @@
 -- A list of numbers decided one by one: what is known where the first i of them are taken
 use Prim.Native.Nat.{ℕ, suc, ◌+◌, ◌-◌, ◌<◌, ◌≤◌}
-use mathlib.Core.Path.{◌≡◌, refl, sym, ap, ◌∙◌}
+use mathlib.Core.Path.{◌≡◌, sym, ap, ◌∙◌}
 use mathlib.Core.List.{List, [], ◌∷◌}
 use native.Mathlib.Omega.{arith}
 use native.Mathlib.Numerals.{add-one}
-use borrow.Author.Tests.{eq-eqb, ne_eqb, eqb-true}
-use lib.Dec.{eqb}
+use Rattle.std.specs.Prelude.{Option, Some, None, is_none}
 use lib.ListN.{length, take, drop, get_or, set, replicate, drop_of_length-le, length-append}
 use lib.Seq.{drop-cons, take-append-le, take-take, length-take-le}
 use Rattle.choice.proofs.Ways.{hit, miss, if_by}
+use Rattle.queue_record.specs.declared.refusal.Refusal.{Refusal}
+use Rattle.queue_record.proofs.Refused.{is_nothing, nothing_is, is_something}
 use Rattle.queue_record.proofs.Padding.{filled_more, filled_is}
 use Rattle.queue_decisions.specs.Births.{register_refusal}
 use Rattle.queue_decisions.specs.Sequences.{taken_of, refusal_of, copied, taking_of}
@@ -21,37 +22,37 @@ next_first numbers i h = rw add-one (drop-cons numbers i 0 h)
 
 -- ---- by the first number
 module _ (number : ℕ) (rest : List ℕ) (count : ℕ) where
-  pub taken_one : register_refusal number count ≡ 0 → taken_of (number ∷ rest) count ≡ suc (taken_of rest (count + 1))
+  pub taken_one : register_refusal number count ≡ None → taken_of (number ∷ rest) count ≡ suc (taken_of rest (count + 1))
   unfolding taken_of
-  taken_one e = hit _ (eq-eqb _ _ e)
+  taken_one e = hit _ (is_nothing e)
 
-  pub taken_none : (register_refusal number count ≡ 0 → ⊥) → taken_of (number ∷ rest) count ≡ 0
+  pub taken_none : (r : Refusal) → register_refusal number count ≡ Some r → taken_of (number ∷ rest) count ≡ 0
   unfolding taken_of
-  taken_none e = miss _ (ne_eqb _ _ e)
+  taken_none r e = miss _ (is_something e)
 
-  pub refusal_behind : register_refusal number count ≡ 0 → refusal_of (number ∷ rest) count ≡ refusal_of rest (count + 1)
+  pub refusal_behind : register_refusal number count ≡ None → refusal_of (number ∷ rest) count ≡ refusal_of rest (count + 1)
   unfolding refusal_of
-  refusal_behind e = hit _ (eq-eqb _ _ e)
+  refusal_behind e = hit _ (is_nothing e)
 
-  pub refusal_here : (register_refusal number count ≡ 0 → ⊥) → refusal_of (number ∷ rest) count ≡ register_refusal number count
+  pub refusal_here : (r : Refusal) → register_refusal number count ≡ Some r → refusal_of (number ∷ rest) count ≡ register_refusal number count
   unfolding refusal_of
-  refusal_here e = miss _ (ne_eqb _ _ e)
+  refusal_here r e = miss _ (is_something e)
 
 -- ---- no more are taken than there are, and than there are slots for
 pub taken_within : (numbers : List ℕ) (count : ℕ) → taken_of numbers count ≤ length numbers
 unfolding taken_of
 taken_within [] count = omega arith
 taken_within (n ∷ ns) count =
-    if_by (λ (t : ℕ). t ≤ suc (length ns)) (eqb (register_refusal n count) 0) _ _
+    if_by (λ (t : ℕ). t ≤ suc (length ns)) (is_none (register_refusal n count)) _ _
     (λ _. let l : taken_of ns (count + 1) ≤ length ns = taken_within ns (count + 1) in omega arith) (λ _. omega arith)
 
 pub taken_room : (numbers : List ℕ) (count : ℕ) → count ≤ 64 → count + taken_of numbers count ≤ 64
 unfolding taken_of
 taken_room [] count h = omega arith
 taken_room (n ∷ ns) count h =
-    if_by (λ (t : ℕ). count + t ≤ 64) (eqb (register_refusal n count) 0) _ _
+    if_by (λ (t : ℕ). count + t ≤ 64) (is_none (register_refusal n count)) _ _
     (λ e.
-    let r : count < 64 = register_room n count (eqb-true _ _ e) in
+    let r : count < 64 = register_room n count (nothing_is e) in
     let l : count + 1 + taken_of ns (count + 1) ≤ 64 = taken_room ns (count + 1) (omega arith) in
     omega arith)
     (λ _. omega arith)
@@ -68,7 +69,7 @@ copied_more given i h l =
     ap (λ (xs : List ℕ). set xs i (get_or given i 0)) (sym (filled_is 64 given i)) ∙ (filled_more 64 given i h l ∙ filled_is 64 given (i + 1))
 
 -- what is decided where so many are taken
-abbrev pub decided : List ℕ → ℕ → ℕ → Taking
+abbrev pub decided : List ℕ → ℕ → Option Refusal → Taking
 decided given taken refusal = record { numbers = copied given taken; taken = taken; refusal = refusal }
 
 -- ---- where the first i are taken, with so many tokens: what is decided of the rest is what is decided of the whole
@@ -77,14 +78,11 @@ module _ (given : List ℕ) (count : ℕ) where
     pub taken : taken_of given count ≡ i + taken_of (drop i given) tokens
     pub refusal : refusal_of given count ≡ refusal_of (drop i given) tokens
 
-  pub so_far_none : SoFar count 0
-  so_far_none = record { taken = omega arith; refusal = refl }
-
   module _ (tokens i : ℕ) (s : SoFar tokens i) where
     here : i < length given → drop i given ≡ get_or given i 0 ∷ drop (i + 1) given
     here h = next_first given i h
 
-    pub so_far_more : i < length given → register_refusal (get_or given i 0) tokens ≡ 0 → SoFar (tokens + 1) (i + 1)
+    pub so_far_more : i < length given → register_refusal (get_or given i 0) tokens ≡ None → SoFar (tokens + 1) (i + 1)
     so_far_more h e =
         let t : taken_of (drop i given) tokens ≡ suc (taken_of (drop (i + 1) given) (tokens + 1)) =
         ap (λ (xs : List ℕ). taken_of xs tokens) (here h) ∙ taken_one (get_or given i 0) (drop (i + 1) given) tokens e in
@@ -94,23 +92,23 @@ module _ (given : List ℕ) (count : ℕ) where
         }
 
     -- ended here, by such a number
-    ended : (refusal : ℕ) → taken_of (drop i given) tokens ≡ 0 → refusal_of (drop i given) tokens ≡ refusal → taking_of given count ≡ decided given i refusal
+    ended : (refusal : Option Refusal) → taken_of (drop i given) tokens ≡ 0 → refusal_of (drop i given) tokens ≡ refusal → taking_of given count ≡ decided given i refusal
     unfolding taking_of
     ended refusal t r =
         let e : taken_of given count ≡ i = omega (arith, s.taken) in
         ap (λ (n : ℕ). decided given n (refusal_of given count)) e ∙ ap (decided given i) (s.refusal ∙ r)
 
-    pub so_far_refused : i < length given → (register_refusal (get_or given i 0) tokens ≡ 0 → ⊥)
+    pub so_far_refused : i < length given → (r : Refusal) → register_refusal (get_or given i 0) tokens ≡ Some r
         → taking_of given count ≡ decided given i (register_refusal (get_or given i 0) tokens)
-    so_far_refused h e =
-        ended _ (ap (λ (xs : List ℕ). taken_of xs tokens) (here h) ∙ taken_none (get_or given i 0) (drop (i + 1) given) tokens e)
-        (ap (λ (xs : List ℕ). refusal_of xs tokens) (here h) ∙ refusal_here (get_or given i 0) (drop (i + 1) given) tokens e)
+    so_far_refused h r e =
+        ended _ (ap (λ (xs : List ℕ). taken_of xs tokens) (here h) ∙ taken_none (get_or given i 0) (drop (i + 1) given) tokens r e)
+        (ap (λ (xs : List ℕ). refusal_of xs tokens) (here h) ∙ refusal_here (get_or given i 0) (drop (i + 1) given) tokens r e)
 
-    pub so_far_all : length given ≤ i → taking_of given count ≡ decided given i 0
+    pub so_far_all : length given ≤ i → taking_of given count ≡ decided given i None
     unfolding taken_of refusal_of
     so_far_all h =
         let none : drop i given ≡ [] = drop_of_length-le given h in
-        ended 0 (ap (λ (xs : List ℕ). taken_of xs tokens) none) (ap (λ (xs : List ℕ). refusal_of xs tokens) none)
+        ended None (ap (λ (xs : List ℕ). taken_of xs tokens) none) (ap (λ (xs : List ℕ). refusal_of xs tokens) none)
 
 -- ---- what was decided, as who asked sees it: the first n of the copy can be lent, and are the first n of the list
 module _ (given : List ℕ) (count : ℕ) (s : Taking) (e : s ≡ taking_of given count) where

@@ -1,3 +1,4 @@
+pub mod Types
 pub mod Slots
 pub mod Births
 pub mod Sequences

@@ -1,62 +1,40 @@
-// R64: what refuses the answer to a ticket; 0 where nothing does.
+// R64: what refuses the answer to a ticket.
 ghost use Rattle.std.specs.Prelude.{◌≡◌};
-ghost use Rattle.queue_decisions.specs.Answers.{same_ticket, is_out, keeps_on_done, complete_refusal};
+ghost use Rattle.queue_decisions.specs.Answers.{is_out, keeps_on_done, complete_refusal};
 
-use queue_record::refusal::{BAD_OUTCOME, KEPT_ON_DONE, NOT_OUT};
-use queue_record::{Selection, Ticket};
-
-fn same_ticket(a: Ticket, b: Ticket) -> bool
-    ensures { result ≡ same_ticket a b }
-{
-    if a.domain != b.domain {
-        return false;
-    }
-    if a.token != b.token {
-        return false;
-    }
-    a.attempt == b.attempt
-}
+use queue_record::{Refusal, Ticket};
 
 // R139: whether `ticket` is the one that is out, in every part.
-fn is_out(issued: bool, selection: Selection, ticket: Ticket) -> bool
+fn is_out(issued: bool, selection: Option<Ticket>, ticket: Ticket) -> bool
     ensures { result ≡ is_out issued selection ticket }
 {
-    let Selection::Of(own) = selection else {
-        return false;
-    };
-    if !issued {
-        return false;
-    }
-    same_ticket(own, ticket)
+    issued && selection == Some(ticket)
 }
 
 fn keeps_on_done(outcome: u64, kept: u64) -> bool
     ensures { result ≡ keeps_on_done outcome kept }
 {
-    if outcome != 0 {
-        return false;
-    }
-    kept != 0
+    outcome == 0 && kept != 0
 }
 
+#[tactic(auto, unfolding(crate::specs::Answers::complete_refusal))]
 pub fn complete_refusal(
     issued: bool,
-    selection: Selection,
+    selection: Option<Ticket>,
     ticket: Ticket,
     outcome: u64,
     kept: u64,
-) -> u64
+) -> Option<Refusal>
     ensures { result ≡ complete_refusal issued selection ticket outcome kept }
 {
-    let out = is_out(issued, selection, ticket);
     if 1 < outcome {
-        return BAD_OUTCOME;
+        return Some(Refusal::BadOutcome);
     }
-    if !out {
-        return NOT_OUT;
+    if !is_out(issued, selection, ticket) {
+        return Some(Refusal::NotOut);
     }
     if keeps_on_done(outcome, kept) {
-        return KEPT_ON_DONE;
+        return Some(Refusal::KeptOnDone);
     }
-    0
+    None
 }

@@ -1,34 +1,35 @@
-// R64: what refuses a register or a land; 0 where nothing does.
+// R64: what refuses a register or a land.
 ghost use Rattle.std.specs.Prelude.{◌≡◌};
 ghost use Rattle.queue_decisions.specs.Births.{register_refusal, land_refusal};
 
-use queue_record::MOST_TOKENS;
-use queue_record::refusal::{BAD_NUMBER, NO_SLOT, NOT_PENDING};
+use queue_record::{MOST_TOKENS, Refusal};
 use stage::Phase;
 
-pub fn register_refusal(number: u64, count: u64) -> u64
+#[tactic(auto, unfolding(crate::specs::Births::register_refusal))]
+pub fn register_refusal(number: u64, count: u64) -> Option<Refusal>
     ensures { result ≡ register_refusal number count }
 {
     if number == 0 {
-        return BAD_NUMBER;
+        return Some(Refusal::BadNumber);
     }
     if MOST_TOKENS <= count {
-        return NO_SLOT;
+        return Some(Refusal::NoSlot);
     }
-    0
+    None
 }
 
-pub fn land_refusal(number: u64, phase: Phase, count: u64) -> u64
+#[tactic(auto, unfolding(crate::specs::Births::land_refusal))]
+pub fn land_refusal(number: u64, phase: Phase, count: u64) -> Option<Refusal>
     ensures { result ≡ land_refusal number phase count }
 {
     if number == 0 {
-        return BAD_NUMBER;
+        return Some(Refusal::BadNumber);
     }
-    if !stage::pending(phase) {
-        return NOT_PENDING;
+    if !phase.is_pending() {
+        return Some(Refusal::NotPending);
     }
     if MOST_TOKENS <= count {
-        return NO_SLOT;
+        return Some(Refusal::NoSlot);
     }
-    0
+    None
 }

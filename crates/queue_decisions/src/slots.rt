@@ -8,9 +8,5 @@ pub const NO_MORE: u64 = 18446744073709551615;
 pub fn slot_at(slots: &[u64], token: u64) -> u64
     ensures { result ≡ slot_in slots.now token }
 {
-    let at = token as usize;
-    if slots.len() <= at {
-        return 0;
-    }
-    slots[at]
+    slots.get(token as usize).copied().unwrap_or(0)
 }

@@ -11,8 +11,7 @@ use queue_steps::{Completed, Popped, complete, pop};
 pub fn pop_lent(q: &mut Queue) -> Popped
     ensures { (result ≡ (popped q.old).answer) × (q.new ≡ (popped q.old).queue) }
 {
-    let was = *q;
-    let out = pop(was);
+    let out = pop(*q);
     *q = out.queue;
     out.answer
 }
@@ -20,8 +19,7 @@ pub fn pop_lent(q: &mut Queue) -> Popped
 pub fn complete_lent(q: &mut Queue, ticket: Ticket, outcome: u64, kept: u64) -> Completed
     ensures { (result ≡ (completed q.old ticket outcome kept).answer) × (q.new ≡ (completed q.old ticket outcome kept).queue) }
 {
-    let was = *q;
-    let back = complete(was, ticket, outcome, kept);
+    let back = complete(*q, ticket, outcome, kept);
     *q = back.queue;
     back.answer
 }

@@ -1,16 +1,23 @@
 -- Whether anything is left, by what the search found
 use Prim.Native.Nat.{ℕ}
 use mathlib.Core.Path.{◌≡◌, refl}
-use mathlib.Core.Bool.{false}
+use mathlib.Core.Bool.{true}
 use mathlib.Core.List.{List, [], ◌∷◌}
 use native.Mathlib.Omega.{arith}
-use Rattle.queue_record.specs.Newest.{newest}
-use Rattle.queue_record.specs.declared.search.Found.TheVariants.{At}
-use Rattle.queue_record.specs.declared.record.Selection.TheVariants.{Free}
+use Rattle.queue_record.specs.Newest.{newest, last_or}
+use Rattle.queue_record.specs.Waiting.{others}
+use Rattle.queue_record.specs.declared.record.Ticket.{Ticket}
 use Rattle.queue_questions.specs.Questions.{nothing_left}
+use Rattle.std.specs.Prelude.{Option, Some, None, is_none}
 
--- something found means that something is left
-pub newest_left : (ks : List ℕ) (k : ℕ) → newest ks ≡ At k → nothing_left Free ks ≡ false
+-- what was found stays found
+found_stays : (k : ℕ) (ks : List ℕ) → is_none (last_or (Some k) ks) ≡ is_none (Some k)
+found_stays k [] = refl
+found_stays k (j ∷ ks) = found_stays j ks
+
+-- with nothing selected, nothing is left where the search finds nothing
+pub none_left : (s : Option Ticket) (ks : List ℕ) → is_none s ≡ true → nothing_left s (others s ks) ≡ is_none (newest ks)
 unfolding newest
-newest_left [] k h = let w : ◌≡◌ {A = ℕ} 0 1 = cc in absurd (omega arith)
-newest_left (j ∷ ks) k h = refl
+none_left None [] e = refl
+none_left None (k ∷ ks) e = let r : is_none (last_or (Some k) ks) ≡ is_none (Some k) = found_stays k ks in cc
+none_left (Some t) ks e = let z : ◌≡◌ {A = ℕ} 0 1 = cc in absurd (omega arith)

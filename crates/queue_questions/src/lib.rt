@@ -5,5 +5,5 @@ mod questions;
 
 pub use questions::{
     DomainTold, Told, can_finish, can_retry, domain, has_failed, is_cancelled, is_empty, is_issued,
-    is_pending, is_settled, may_finish, say,
+    is_pending, is_settled, may_finish,
 };

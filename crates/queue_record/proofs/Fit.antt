@@ -10,9 +10,8 @@ use lib.ListN.{length, get_or}
 use Rattle.choice.proofs.Ways.{pass, and_left, and_right, clash}
 use Rattle.queue_record.specs.WellFormed.{all_true, clauses, rest_zero, is_selected, ticket_fits, marks_fit, slot_fits, selected_fits, scope_fits, well_formed}
 use Rattle.queue_record.specs.declared.record.Ticket.{Ticket}
-use Rattle.queue_record.specs.declared.record.Selection.{Selection}
-use Rattle.queue_record.specs.declared.record.Selection.TheVariants.{Free, Of}
 use Rattle.queue_record.specs.declared.record.Queue.{Queue}
+use Rattle.std.specs.Prelude.{Option, Some, None}
 
 -- ---- the clauses on what an opening gives and no call changes: a law over a call passes them on whole
 pub record Given (n : ℕ) (places : List ℕ) : Type 0 where
@@ -59,27 +58,27 @@ tokens_within q h l = let b : q.count ≤ 64 = (fit q h).count in omega arith
 
 -- ---- the selected ticket
 module _ (domain count next : ℕ) (t : Ticket) where
-  pub ticket_domain : ticket_fits domain count next (Of t) ≡ true → t.domain ≡ domain
+  pub ticket_domain : ticket_fits domain count next (Some t) ≡ true → t.domain ≡ domain
   ticket_domain h = eqb-true _ _ (and_left (eqb t.domain domain) (ltb t.token count && ltb t.attempt next) h)
 
-  ticket_rest : ticket_fits domain count next (Of t) ≡ true → (ltb t.token count && ltb t.attempt next) ≡ true
+  ticket_rest : ticket_fits domain count next (Some t) ≡ true → (ltb t.token count && ltb t.attempt next) ≡ true
   ticket_rest h = and_right (eqb t.domain domain) (ltb t.token count && ltb t.attempt next) h
 
-  pub ticket_born : ticket_fits domain count next (Of t) ≡ true → t.token < count
+  pub ticket_born : ticket_fits domain count next (Some t) ≡ true → t.token < count
   ticket_born h = ltb-true _ _ (and_left (ltb t.token count) (ltb t.attempt next) (ticket_rest h))
 
-  pub ticket_below : count ≤ 64 → ticket_fits domain count next (Of t) ≡ true → t.token < 64
+  pub ticket_below : count ≤ 64 → ticket_fits domain count next (Some t) ≡ true → t.token < 64
   ticket_below l h = let b : t.token < count = ticket_born h in omega arith
 
-  pub ticket_before : ticket_fits domain count next (Of t) ≡ true → t.attempt < next
+  pub ticket_before : ticket_fits domain count next (Some t) ≡ true → t.attempt < next
   ticket_before h = ltb-true _ _ (and_right (ltb t.token count) (ltb t.attempt next) (ticket_rest h))
 
-  pub ticket_fits_lem : t.domain ≡ domain → t.token < count → t.attempt < next → ticket_fits domain count next (Of t) ≡ true
+  pub ticket_fits_lem : t.domain ≡ domain → t.token < count → t.attempt < next → ticket_fits domain count next (Some t) ≡ true
   ticket_fits_lem d k a = pass _ (eq-eqb _ _ d) ∙ (pass _ (lt-ltb _ _ k) ∙ lt-ltb _ _ a)
 
 -- the selected ticket of a well-formed record
-module _ (q : Queue) (t : Ticket) (h : well_formed q ≡ true) (e : q.selection ≡ Of t) where
-  own : ticket_fits q.domain q.count q.next (Of t) ≡ true
+module _ (q : Queue) (t : Ticket) (h : well_formed q ≡ true) (e : q.selection ≡ Some t) where
+  own : ticket_fits q.domain q.count q.next (Some t) ≡ true
   own = sym (ap (ticket_fits q.domain q.count q.next) e) ∙ (fit q h).ticket
 
   pub selected_domain : t.domain ≡ q.domain
@@ -124,15 +123,15 @@ free_unmarked false false h = (refl, refl)
 free_unmarked true i h = clash h refl
 free_unmarked false true h = clash h refl
 
-pub free_no_marks : (q : Queue) → well_formed q ≡ true → q.selection ≡ Free → (q.failed ≡ false) × (q.issued ≡ false)
-free_no_marks q h e = free_unmarked q.failed q.issued (sym (ap (λ (s : Selection). marks_fit (is_selected s) q.failed q.issued) e) ∙ (fit q h).marks)
+pub free_no_marks : (q : Queue) → well_formed q ≡ true → q.selection ≡ None → (q.failed ≡ false) × (q.issued ≡ false)
+free_no_marks q h e = free_unmarked q.failed q.issued (sym (ap (λ (s : Option Ticket). marks_fit (is_selected s) q.failed q.issued) e) ∙ (fit q h).marks)
 
 -- an issued slot is empty
 issued_hollow : (f i : Bool) (n : ℕ) → slot_fits f i n ≡ true → i ≡ true → n ≡ 0
 issued_hollow f true n h e = eqb-true n 0 (and_left (eqb n 0) _ h)
 issued_hollow f false n h e = clash e refl
 
-pub issued_empty_lem : (q : Queue) (t : Ticket) → well_formed q ≡ true → q.selection ≡ Of t → q.issued ≡ true → get_or q.slots t.token 0 ≡ 0
+pub issued_empty_lem : (q : Queue) (t : Ticket) → well_formed q ≡ true → q.selection ≡ Some t → q.issued ≡ true → get_or q.slots t.token 0 ≡ 0
 issued_empty_lem q t h e i = issued_hollow q.failed q.issued (get_or q.slots t.token 0) (selected_slot q t h e) i
 
 -- a ready slot is occupied
@@ -141,5 +140,5 @@ ready_full_lem false false n h i f z = clash h (rw z)
 ready_full_lem true j n h i f z = clash {b = true} refl f
 ready_full_lem false true n h i f z = clash {b = true} refl i
 
-pub ready_occupied : (q : Queue) (t : Ticket) → well_formed q ≡ true → q.selection ≡ Of t → q.issued ≡ false → q.failed ≡ false → get_or q.slots t.token 0 ≡ 0 → ⊥
+pub ready_occupied : (q : Queue) (t : Ticket) → well_formed q ≡ true → q.selection ≡ Some t → q.issued ≡ false → q.failed ≡ false → get_or q.slots t.token 0 ≡ 0 → ⊥
 ready_occupied q t h e i f = ready_full_lem q.failed q.issued (get_or q.slots t.token 0) (selected_slot q t h e) i f

@@ -1,9 +1,11 @@
 pub mod Zeros
 pub mod Padding
-pub mod Marks
 pub mod Fit
 pub mod OpenedLaws
 pub mod BlankOnly
 pub mod Waiting
 pub mod Last
 pub mod WaitingCount
+pub mod Refused
+pub mod Downward
+pub mod Above

@@ -6,7 +6,7 @@ use mathlib.Core.List.{List, ◌++◌}
 use native.Mathlib.Omega.{arith}
 use native.Mathlib.Numerals.{add-one}
 use lib.ListN.{length, get_or, take, drop, set, replicate, length-replicate, length-append}
-use lib.Seq.{paste, paste-zero, paste-suc, take_all, drop-append_seam}
+use lib.Seq.{paste, paste-suc, drop-append_seam}
 use Rattle.queue_record.specs.Openings.{binding_places}
 use Rattle.queue_record.specs.WellFormed.{all_zero, rest_zero}
 use Rattle.queue_record.proofs.Zeros.{zeros_are}
@@ -30,9 +30,6 @@ abbrev pub filled : ℕ → List ℕ → ℕ → List ℕ
 filled width given i = paste (replicate width 0) 0 given i
 
 module _ (width : ℕ) (given : List ℕ) where
-  pub filled_none : replicate width 0 ≡ filled width given 0
-  filled_none = paste-zero (replicate width 0) 0 given
-
   pub filled_more : (i : ℕ) → i < width → i < length given → set (filled width given i) i (get_or given i 0) ≡ filled width given (i + 1)
   filled_more i l h =
       let z : 0 + i ≡ i = omega arith in
@@ -43,11 +40,6 @@ module _ (width : ℕ) (given : List ℕ) where
   filled_is i =
       let z : 0 + i ≡ i = omega arith in
       ap (λ (xs : List ℕ). take i given ++ xs) (drop_replicate (0 + i) width ∙ ap (λ (n : ℕ). replicate (width - n) 0) z)
-
-pub filled_all : (given : List ℕ) (i : ℕ) → length given ≤ i → i ≤ length given → filled 16 given i ≡ binding_places given
-filled_all given i h k =
-    let e : i ≡ length given = omega arith in
-    ap (filled 16 given) e ∙ (filled_is 16 given (length given) ∙ ap (λ (xs : List ℕ). xs ++ replicate (16 - length given) 0) (take_all (length given) given (omega arith)))
 
 -- behind the given numbers all is 0
 pub kept_rest : (given : List ℕ) → rest_zero (length given) (binding_places given) ≡ true

@@ -1,36 +1,53 @@
--- Places that are all 0: the walk over them, and what holds at each
-use Prim.Native.Nat.{ℕ, zero, suc, ◌+◌, ◌-◌, ◌<◌, ◌≤◌}
+-- Places that are all 0: the test of them, and what holds at each
+use Prim.Native.Nat.{ℕ, zero, suc, ◌+◌, ◌-◌, ◌<◌, ◌≤◌, min}
 use mathlib.Core.Path.{◌≡◌, refl, sym, ap, ◌∙◌}
 use mathlib.Core.Bool.{Bool, true, false, ◌&&◌}
 use mathlib.Core.List.{List, [], ◌∷◌}
 use native.Mathlib.Omega.{arith}
 use native.Mathlib.Numerals.{add-one}
-use borrow.Author.Tests.{eq-eqb, ne_eqb, eqb-true, ltb-true, ltb-false}
+use borrow.Author.Tests.{eq-eqb, eqb-true, ltb-true, ltb-false}
 use lib.Dec.{eqb, ltb}
-use lib.ListN.{length, get_or, drop, replicate, drop_of_length-le}
-use lib.Seq.{drop-cons, get_or-drop}
-use Rattle.choice.proofs.Ways.{pass, stop, and_left, and_right}
+use lib.ListN.{length, get_or, take, drop, replicate, length-drop, drop_of_length-le}
+use lib.Seq.{get_or-drop, take_all}
+use Rattle.std.specs.List.{list_all}
+use Rattle.std.proofs.lemmas.List.Recursion.{and_from_places}
+use Rattle.choice.proofs.Ways.{and_left, and_right}
 use Rattle.queue_record.specs.WellFormed.{all_zero, rest_zero}
 
--- ---- one step of the walk
-module _ (s : List ℕ) (i : ℕ) where
-  zero_step : i < length s → rest_zero i s ≡ (eqb (get_or s i 0) 0 && rest_zero (i + 1) s)
-  zero_step h = rw (add-one, drop-cons s i 0)
+-- ---- the test is the library's
+all_zero_is : (xs : List ℕ) → list_all (λ x. eqb x 0) xs ≡ all_zero xs
+all_zero_is [] = refl
+all_zero_is (x ∷ xs) = ap (λ b. eqb x 0 && b) (all_zero_is xs)
 
-  pub zero_hit : i < length s → (get_or s i 0 ≡ 0 → ⊥) → rest_zero i s ≡ false
-  zero_hit h n = zero_step h ∙ stop _ (ne_eqb _ _ n)
+-- from a place past the end on there is nothing, as from the end on
+drop_within : (c : ℕ) (xs : List ℕ) → drop (min (length xs) c) xs ≡ drop c xs
+drop_within c xs = go (ltb c (length xs)) refl
+  where
+    go : (b : Bool) → ltb c (length xs) ≡ b → drop (min (length xs) c) xs ≡ drop c xs
+    go true e =
+        let l : c < length xs = ltb-true _ _ e in
+        let m : min (length xs) c ≡ c = omega arith in
+        ap (λ (n : ℕ). drop n xs) m
+    go false e =
+        let l : length xs ≤ c = ltb-false _ _ e in
+        drop_of_length-le xs (omega arith) ∙ sym (drop_of_length-le xs l)
 
-  pub zero_pass : i < length s → get_or s i 0 ≡ 0 → rest_zero (i + 1) s ≡ rest_zero i s
-  zero_pass h e = sym (zero_step h ∙ pass _ (eq-eqb _ _ e))
-
-  pub zero_end : length s ≤ i → rest_zero i s ≡ true
-  zero_end h = rw (drop_of_length-le s h)
+pub is_rest_zero : (c start : ℕ) (xs : List ℕ) (r : Bool) → start ≡ min (length xs) c → r ≡ list_all (λ x. eqb x 0) (take (length xs - start) (drop start xs)) → r ≡ rest_zero c xs
+is_rest_zero c start xs r s e =
+    let t : take (length xs - start) (drop start xs) ≡ drop start xs = take_all (length xs - start) (drop start xs) (omega (arith, length-drop start xs)) in
+    e ∙ (ap (list_all (λ x. eqb x 0)) t ∙ (all_zero_is (drop start xs) ∙ (ap (λ n. all_zero (drop n xs)) s ∙ ap all_zero (drop_within c xs))))
 
 -- ---- what it says of each place
 zero_at : (xs : List ℕ) (i : ℕ) → all_zero xs ≡ true → get_or xs i 0 ≡ 0
 zero_at [] i h = refl
 zero_at (x ∷ xs) zero h = eqb-true x 0 (and_left (eqb x 0) (all_zero xs) h)
 zero_at (x ∷ xs) (suc i) h = zero_at xs i (and_right (eqb x 0) (all_zero xs) h)
+
+-- where each place from the count on is 0, the rest is
+pub rest_from_places : (c : ℕ) (xs : List ℕ) → ((k : ℕ) → c ≤ k → k < length xs → get_or xs k 0 ≡ 0) → rest_zero c xs ≡ true
+rest_from_places c xs f =
+    and_from_places all_zero (λ x. eqb x 0) refl (λ _ _. refl) (drop c xs) 0
+    (λ k h. eq-eqb (get_or (drop c xs) k 0) 0 (get_or-drop c xs k 0 ∙ f (c + k) (omega arith) (omega (arith, length-drop c xs))))
 
 -- a place from the count on is 0
 pub rest_at : (c : ℕ) (xs : List ℕ) (i : ℕ) → rest_zero c xs ≡ true → c ≤ i → get_or xs i 0 ≡ 0

@@ -1,9 +1,9 @@
 -- The record with one part set, and the lengths of its two arrays. An added field changes this file, the openings and the blank test, and no step
-use Rattle.std.specs.Prelude.{ℕ, ◌≡◌, Bool, length, set}
+use Rattle.std.specs.Prelude.{ℕ, ◌≡◌, Bool, length, set, Option}
 use Rattle.stage.specs.declared.phases.Phase.{Phase}
 use Rattle.queue_record.specs.declared.record.Kind.{Kind}
-use Rattle.queue_record.specs.declared.record.Selection.{Selection}
 use Rattle.queue_record.specs.declared.record.Queue.{Queue}
+use Rattle.queue_record.specs.declared.record.Ticket.{Ticket}
 
 abbrev pub with_kind : Queue → Kind → Queue
 with_kind q k = record { kind = k; domain = q.domain; next = q.next; slots = q.slots; count = q.count; selection = q.selection; failed = q.failed; issued = q.issued; phase = q.phase; bindings = q.bindings; bound = q.bound }
@@ -17,7 +17,7 @@ with_slot q token n = record { kind = q.kind; domain = q.domain; next = q.next; 
 abbrev pub with_count : Queue → ℕ → Queue
 with_count q n = record { kind = q.kind; domain = q.domain; next = q.next; slots = q.slots; count = n; selection = q.selection; failed = q.failed; issued = q.issued; phase = q.phase; bindings = q.bindings; bound = q.bound }
 
-abbrev pub with_selection : Queue → Selection → Queue
+abbrev pub with_selection : Queue → Option Ticket → Queue
 with_selection q s = record { kind = q.kind; domain = q.domain; next = q.next; slots = q.slots; count = q.count; selection = s; failed = q.failed; issued = q.issued; phase = q.phase; bindings = q.bindings; bound = q.bound }
 
 abbrev pub with_failed : Queue → Bool → Queue

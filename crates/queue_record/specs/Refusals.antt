@@ -1,5 +1,7 @@
 -- R63: the numbers of refusal, by their names
-use Rattle.std.specs.Prelude.{ℕ}
+use Rattle.std.specs.Prelude.{ℕ, Option, Some, None}
+use Rattle.queue_record.specs.declared.refusal.Refusal.{Refusal}
+use Rattle.queue_record.specs.declared.refusal.Refusal.TheVariants.{Broken, BadNumber, NoSlot, NotPending, NoAttempt, NotOut, KeptOnDone, NoRetry, Hollow, NoGroup, GroupsFull, Sealed, NotDrained, TooManyBindings, BadOutcome, BadLog, LogFull, BadText, NoId, NothingKept, NoFurtherAttempt}
 
 abbrev pub done : ℕ
 done = 0
@@ -66,3 +68,32 @@ nothing_kept = 20
 
 abbrev pub no_further_attempt : ℕ
 no_further_attempt = 21
+
+-- the number of each
+abbrev pub refusal_number : Refusal → ℕ
+refusal_number Broken = broken
+refusal_number BadNumber = bad_number
+refusal_number NoSlot = no_slot
+refusal_number NotPending = not_pending
+refusal_number NoAttempt = no_attempt
+refusal_number NotOut = not_out
+refusal_number KeptOnDone = kept_on_done
+refusal_number NoRetry = no_retry
+refusal_number Hollow = hollow
+refusal_number NoGroup = no_group
+refusal_number GroupsFull = groups_full
+refusal_number Sealed = sealed
+refusal_number NotDrained = not_drained
+refusal_number TooManyBindings = too_many_bindings
+refusal_number BadOutcome = bad_outcome
+refusal_number BadLog = bad_log
+refusal_number LogFull = log_full
+refusal_number BadText = bad_text
+refusal_number NoId = no_id
+refusal_number NothingKept = nothing_kept
+refusal_number NoFurtherAttempt = no_further_attempt
+
+-- 0 where nothing refuses
+abbrev pub result_number : Option Refusal → ℕ
+result_number None = done
+result_number (Some refusal) = refusal_number refusal

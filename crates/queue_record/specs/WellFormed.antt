@@ -1,13 +1,12 @@
 -- R12: when a record is well formed, a named clause each
-use Rattle.std.specs.Prelude.{ℕ, Bool, true, false, not, ◌&&◌, ◌||◌, List, [], ◌∷◌, eqb, leb, ltb, get_or, drop}
+use Rattle.std.specs.Prelude.{ℕ, Bool, true, false, not, ◌&&◌, ◌||◌, List, [], ◌∷◌, eqb, leb, ltb, get_or, drop, Option, Some, None}
 use Rattle.choice.specs.Choice.{implies}
 use Rattle.stage.specs.Phases.{is_settled}
 use Rattle.stage.specs.declared.phases.Phase.{Phase}
 use Rattle.queue_record.specs.declared.record.Kind.{Kind}
 use Rattle.queue_record.specs.declared.record.Kind.TheVariants.{Scope, Iterator}
-use Rattle.queue_record.specs.declared.record.Selection.{Selection}
-use Rattle.queue_record.specs.declared.record.Selection.TheVariants.{Free, Of}
 use Rattle.queue_record.specs.declared.record.Queue.{Queue}
+use Rattle.queue_record.specs.declared.record.Ticket.{Ticket}
 
 -- R13: the tokens have room
 abbrev pub tokens_fit : ℕ → Bool
@@ -25,14 +24,14 @@ all_zero (x ∷ xs) = eqb x 0 && all_zero xs
 abbrev pub rest_zero : ℕ → List ℕ → Bool
 rest_zero used places = all_zero (drop used places)
 
-abbrev pub is_selected : Selection → Bool
-is_selected Free = false
-is_selected (Of t) = true
+abbrev pub is_selected : Option Ticket → Bool
+is_selected None = false
+is_selected (Some t) = true
 
 -- R15: the ticket is this queue's, of a token that was given, and its attempt has been used
-abbrev pub ticket_fits : ℕ → ℕ → ℕ → Selection → Bool
-ticket_fits domain count next Free = true
-ticket_fits domain count next (Of t) = eqb t.domain domain && (ltb t.token count && ltb t.attempt next)
+abbrev pub ticket_fits : ℕ → ℕ → ℕ → Option Ticket → Bool
+ticket_fits domain count next None = true
+ticket_fits domain count next (Some t) = eqb t.domain domain && (ltb t.token count && ltb t.attempt next)
 
 -- R16, R17: a mark stands beside a ticket, and not beside the other mark
 abbrev pub marks_fit : Bool → Bool → Bool → Bool
@@ -43,9 +42,9 @@ abbrev pub slot_fits : Bool → Bool → ℕ → Bool
 slot_fits failed issued number = implies issued (eqb number 0) && implies (not failed && not issued) (not (eqb number 0))
 
 -- that slot is the selected ticket's
-abbrev pub selected_fits : Bool → Bool → List ℕ → Selection → Bool
-selected_fits failed issued slots Free = true
-selected_fits failed issued slots (Of t) = slot_fits failed issued (get_or slots t.token 0)
+abbrev pub selected_fits : Bool → Bool → List ℕ → Option Ticket → Bool
+selected_fits failed issued slots None = true
+selected_fits failed issued slots (Some t) = slot_fits failed issued (get_or slots t.token 0)
 
 -- R20: a scope takes no bindings, and its stage is settled
 abbrev pub scope_fits : Kind → ℕ → Phase → Bool

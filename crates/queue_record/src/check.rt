@@ -1,50 +1,37 @@
 // R12: whether a record is well formed, one test for each clause.
-ghost use Rattle.std.specs.Prelude.{◌≡◌, true, ◌&&◌};
-ghost use Rattle.queue_record.specs.WellFormed.{rest_zero, scope_fits, ticket_fits, marks_fit, slot_fits, well_formed};
-ghost use Rattle.queue_record.specs.declared.record.Selection.TheVariants.{Of};
+ghost use Rattle.std.specs.Prelude.{◌≤◌, ◌≡◌, ◌↔◌, true, ◌&&◌, Some, IsOk, IfErr};
+ghost use Rattle.queue_record.specs.declared.refusal.Refusal.TheVariants.{Broken};
+ghost use Rattle.queue_record.specs.WellFormed.{rest_zero, scope_fits, ticket_fits, marks_fit, is_selected, selected_fits, slot_fits, well_formed};
 
 use crate::limits::{MOST_BINDINGS, MOST_TOKENS};
-use crate::record::{Kind, Queue, Selection, Ticket};
+use crate::record::{Kind, Queue, Ticket};
+use crate::refusal::Refusal;
 use stage::Phase;
 
 // Whether every number of `s` from the place `from` on is 0.
 pub fn zeros_from(s: &[u64], from: u64) -> bool
     ensures { result ≡ rest_zero from s.now }
 {
-    let mut i = from as usize;
-    while i < s.len() {
-        if s[i] != 0 {
-            return false;
-        }
-        i += 1;
-    }
-    true
+    // a `skip` would step over the places one by one
+    let start = s.len().min(from as usize);
+    s[start..].iter().all(|x| *x == 0)
 }
 
 // R20: a scope takes no bindings, and its stage is settled.
 pub fn scope_fits(kind: Kind, bound: u64, phase: Phase) -> bool
     ensures { result ≡ scope_fits kind bound phase }
 {
-    let Kind::Scope = kind else {
-        return true;
-    };
-    if bound != 0 {
-        return false;
+    match kind {
+        Kind::Scope => bound == 0 && phase.is_settled(),
+        Kind::Iterator => true,
     }
-    stage::settled(phase)
 }
 
 // R15: the ticket is this queue's, of a token that was given, and its attempt has been used.
 pub fn ticket_fits(domain: u64, count: u64, next: u64, t: Ticket) -> bool
-    ensures { result ≡ ticket_fits domain count next (Of t) }
+    ensures { result ≡ ticket_fits domain count next (Some t) }
 {
-    if t.domain != domain {
-        return false;
-    }
-    if count <= t.token {
-        return false;
-    }
-    t.attempt < next
+    t.domain == domain && t.token < count && t.attempt < next
 }
 
 // R17 to R19: never both marks; an issued slot is empty, a ready one occupied.
@@ -52,50 +39,43 @@ pub fn slot_fits(failed: bool, issued: bool, number: u64) -> bool
     ensures { result ≡ (marks_fit true failed issued && slot_fits failed issued number) }
 {
     if issued {
-        if failed {
-            return false;
-        }
-        return number == 0;
+        return !failed && number == 0;
     }
-    if failed {
-        return true;
-    }
-    number != 0
+    failed || number != 0
 }
 
+// R15 to R19: the selected ticket, the marks and the ticket's slot agree.
+fn selection_fits(q: &Queue) -> bool
+    requires { q.now.count ≤ 64 }
+    ensures { result ≡ (ticket_fits q.now.domain q.now.count q.now.next q.now.selection && (marks_fit (is_selected q.now.selection) q.now.failed q.now.issued && selected_fits q.now.failed q.now.issued q.now.slots q.now.selection)) }
+{
+    let Some(ticket) = q.selection else {
+        return !q.failed && !q.issued;
+    };
+    ticket_fits(q.domain, q.count, q.next, ticket)
+        && slot_fits(q.failed, q.issued, q.slots[ticket.token as usize])
+}
+
+#[tactic(auto, unfolding(crate::specs::WellFormed::well_formed))]
 pub fn well_formed(q: Queue) -> bool
     ensures { result ≡ well_formed q }
 {
-    if MOST_TOKENS < q.count {
-        return false;
+    q.count <= MOST_TOKENS
+        && q.bound <= MOST_BINDINGS
+        && zeros_from(&q.slots, q.count)
+        && zeros_from(&q.bindings, q.bound)
+        && scope_fits(q.kind, q.bound, q.phase)
+        && selection_fits(&q)
+}
+
+// What each question asks first. Where the answer stands beside the record, `?` can't pass the record on: those calls ask well_formed.
+pub fn sound(q: Queue) -> Result<(), Refusal>
+    ensures ok { IsOk result ↔ (well_formed q ≡ true) }
+    ensures err { IfErr result (λ refusal. refusal ≡ Broken) }
+{
+    if well_formed(q) {
+        Ok(())
+    } else {
+        Err(Refusal::Broken)
     }
-    if MOST_BINDINGS < q.bound {
-        return false;
-    }
-    let slots = q.slots;
-    if !zeros_from(&slots, q.count) {
-        return false;
-    }
-    let bindings = q.bindings;
-    if !zeros_from(&bindings, q.bound) {
-        return false;
-    }
-    let kind = q.kind;
-    let phase = q.phase;
-    if !scope_fits(kind, q.bound, phase) {
-        return false;
-    }
-    let selection = q.selection;
-    let Selection::Of(ticket) = selection else {
-        if q.failed {
-            return false;
-        }
-        return !q.issued;
-    };
-    if !ticket_fits(q.domain, q.count, q.next, ticket) {
-        return false;
-    }
-    let at = ticket.token as usize;
-    let number = slots[at];
-    slot_fits(q.failed, q.issued, number)
 }

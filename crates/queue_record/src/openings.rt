@@ -2,9 +2,10 @@
 ghost use Rattle.std.specs.Prelude.{◌≤◌, ◌≡◌, length};
 ghost use Rattle.queue_record.specs.Openings.{binding_places, started, blank, opening_of, scope_opened, iterator_opened, opened_as};
 
+use crate::answered::Answered;
 use crate::limits::MOST_BINDINGS;
-use crate::record::{Kind, Queue, Selection};
-use crate::refusal::TOO_MANY_BINDINGS;
+use crate::record::{Kind, Queue};
+use crate::refusal::Refusal;
 use stage::Phase;
 
 // What a queue is opened as. A struct that lends a slice would want its proofs by hand, so an iterator's bindings go beside it.
@@ -15,17 +16,7 @@ pub struct Heading {
     pub first: u64,
 }
 
-#[derive(Clone, Copy)]
-pub enum Opened {
-    Open,
-    Refused(u64),
-}
-
-#[derive(Clone, Copy)]
-pub struct OpenAnswer {
-    pub answer: Opened,
-    pub queue: Queue,
-}
+pub type Opened = Result<(), Refusal>;
 
 // The given bindings in their 16 places.
 pub fn places_of(given: &[u64]) -> [u64; 16]
@@ -33,11 +24,7 @@ pub fn places_of(given: &[u64]) -> [u64; 16]
     ensures { result ≡ binding_places given.now }
 {
     let mut places = [0u64; 16];
-    let mut i = 0;
-    while i < given.len() {
-        places[i] = given[i];
-        i += 1;
-    }
+    places[..given.len()].copy_from_slice(given);
     places
 }
 
@@ -45,23 +32,23 @@ pub fn places_of(given: &[u64]) -> [u64; 16]
 fn started(heading: Heading, phase: Phase, bindings: [u64; 16], bound: u64) -> Queue
     ensures { result ≡ started heading phase bindings bound }
 {
-    let kind = heading.kind;
     Queue {
-        kind: kind,
+        kind: heading.kind,
         domain: heading.domain,
         next: heading.first,
         slots: [0u64; 64],
         count: 0,
-        selection: Selection::Free,
+        selection: None,
         failed: false,
         issued: false,
-        phase: phase,
-        bindings: bindings,
-        bound: bound,
+        phase,
+        bindings,
+        bound,
     }
 }
 
 // R26: what a refused opening leaves.
+#[tactic(auto, unfolding(crate::specs::Openings::blank, crate::specs::Openings::scope_of))]
 pub fn blank() -> Queue
     ensures { result ≡ blank }
 {
@@ -74,52 +61,53 @@ pub fn blank() -> Queue
 }
 
 // Nothing refuses a scope yet; its answer is every opening's.
-pub fn scope(domain: u64, first: u64) -> OpenAnswer
+#[tactic(auto, unfolding(crate::specs::Openings::scope_of))]
+pub fn scope(domain: u64, first: u64) -> Answered<Opened>
     ensures { result ≡ scope_opened domain first }
 {
     let heading = Heading {
         kind: Kind::Scope,
-        domain: domain,
-        first: first,
+        domain,
+        first,
     };
     let queue = started(heading, Phase::Ended, [0u64; 16], 0);
-    OpenAnswer {
-        answer: Opened::Open,
-        queue: queue,
+    Answered {
+        answer: Ok(()),
+        queue,
     }
 }
 
 // R22, R25: the committed bindings are kept as given; more than 16 are refused.
-pub fn iterator(domain: u64, first: u64, bindings: &[u64]) -> OpenAnswer
+#[tactic(auto, unfolding(crate::specs::Openings::iterator_opened, crate::specs::Openings::iterator_of))]
+pub fn iterator(domain: u64, first: u64, bindings: &[u64]) -> Answered<Opened>
     ensures { result ≡ iterator_opened domain first bindings.now }
 {
     let bound = bindings.len() as u64;
     if MOST_BINDINGS < bound {
         let none = blank();
-        return OpenAnswer {
-            answer: Opened::Refused(TOO_MANY_BINDINGS),
+        return Answered {
+            answer: Err(Refusal::TooManyBindings),
             queue: none,
         };
     }
     let places = places_of(bindings);
     let heading = Heading {
         kind: Kind::Iterator,
-        domain: domain,
-        first: first,
+        domain,
+        first,
     };
     let queue = started(heading, Phase::Idle, places, bound);
-    OpenAnswer {
-        answer: Opened::Open,
-        queue: queue,
+    Answered {
+        answer: Ok(()),
+        queue,
     }
 }
 
 // Either, as the heading says; a scope's bindings are not looked at.
-pub fn open_as(heading: Heading, bindings: &[u64]) -> OpenAnswer
+pub fn open_as(heading: Heading, bindings: &[u64]) -> Answered<Opened>
     ensures { result ≡ opened_as (opening_of heading bindings.now) }
 {
-    let kind = heading.kind;
-    match kind {
+    match heading.kind {
         Kind::Scope => scope(heading.domain, heading.first),
         Kind::Iterator => iterator(heading.domain, heading.first, bindings),
     }

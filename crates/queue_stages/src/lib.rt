@@ -3,6 +3,4 @@
 
 mod stages;
 
-pub use stages::{
-    CancelAnswer, Cancelled, StageAnswer, admit, admit_without, after_admit, cancel, end,
-};
+pub use stages::{Cancelled, admit, admit_without, after_admit, cancel, end};

@@ -2,96 +2,75 @@
 ghost use Rattle.std.specs.Prelude.{◌<◌, ◌≡◌};
 ghost use Rattle.queue_steps.specs.Attempts.{refused_pop, popped_nothing, handed, popped, answered, refused_complete, completed, refused_retry, renewed_to, retried};
 
-use queue_decisions::{Due, Renewal, complete_refusal, number_due, pop_due, retry_due, seek};
-use queue_record::refusal::BROKEN;
-use queue_record::{Queue, Selection, Ticket, select, well_formed};
+use queue_decisions::{complete_refusal, number_due, pop_due, retry_due, seek};
+use queue_record::{Answered, Queue, Refusal, Ticket, select, well_formed};
 
-#[derive(Clone, Copy)]
-pub enum Popped {
-    Work(Ticket, u64),
-    Nothing,
-    Refused(u64),
-}
+pub type Popped = Result<Option<(Ticket, u64)>, Refusal>;
 
-#[derive(Clone, Copy)]
-pub struct PopAnswer {
-    pub answer: Popped,
-    pub queue: Queue,
-}
-
-fn pop_refused(q: Queue, refusal: u64) -> PopAnswer
+fn pop_refused(q: Queue, refusal: Refusal) -> Answered<Popped>
     ensures { result ≡ refused_pop q refusal }
 {
-    PopAnswer {
-        answer: Popped::Refused(refusal),
+    Answered {
+        answer: Err(refusal),
         queue: q,
     }
 }
 
-fn pop_nothing(q: Queue) -> PopAnswer
+fn pop_nothing(q: Queue) -> Answered<Popped>
     ensures { result ≡ popped_nothing q }
 {
-    PopAnswer {
-        answer: Popped::Nothing,
+    Answered {
+        answer: Ok(None),
         queue: q,
     }
 }
 
 // The ticket with its number, and the queue that waits for its answer.
-fn hand_out(q: Queue, ticket: Ticket, number: u64, next: u64) -> PopAnswer
+fn hand_out(q: Queue, ticket: Ticket, number: u64, next: u64) -> Answered<Popped>
     requires { ticket.token < 64 }
     ensures { result ≡ handed q ticket number next }
 {
-    let mut after = select(q, Selection::Of(ticket));
-    let at = ticket.token as usize;
-    after.slots[at] = 0;
+    let mut after = select(q, Some(ticket));
+    after.slots[ticket.token as usize] = 0;
     after.next = next;
     after.issued = true;
-    PopAnswer {
-        answer: Popped::Work(ticket, number),
+    Answered {
+        answer: Ok(Some((ticket, number))),
         queue: after,
     }
 }
 
-pub fn pop(q: Queue) -> PopAnswer
+pub fn pop(q: Queue) -> Answered<Popped>
     ensures { result ≡ popped q }
 {
     if !well_formed(q) {
-        return pop_refused(q, BROKEN);
+        return pop_refused(q, Refusal::Broken);
     }
-    let slots = q.slots;
-    let tokens = q.count as usize;
-    let selection = q.selection;
-    let found = seek(selection, &slots[..tokens]);
-    let number = number_due(selection, found, &slots);
-    let due = pop_due(
-        q.issued, q.failed, selection, found, number, q.domain, q.next,
-    );
-    match due {
-        Due::Nothing => pop_nothing(q),
-        Due::Refused(refusal) => pop_refused(q, refusal),
-        Due::Of(ticket, number, next) => hand_out(q, ticket, number, next),
+    let found = seek(q.selection, &q.slots[..q.count as usize]);
+    let number = number_due(q.selection, found, &q.slots);
+    match pop_due(
+        q.issued,
+        q.failed,
+        q.selection,
+        found,
+        number,
+        q.domain,
+        q.next,
+    ) {
+        Ok(None) => pop_nothing(q),
+        Err(refusal) => pop_refused(q, refusal),
+        Ok(Some((ticket, number, next))) => hand_out(q, ticket, number, next),
     }
 }
 
-#[derive(Clone, Copy)]
-pub enum Completed {
-    Settled,
-    // The refusal's number, and the kept number given.
-    Refused(u64, u64),
-}
+// Taken in; or what refused it, and the kept number given.
+pub type Completed = Result<(), (Refusal, u64)>;
 
-#[derive(Clone, Copy)]
-pub struct CompleteAnswer {
-    pub answer: Completed,
-    pub queue: Queue,
-}
-
-fn complete_refused(q: Queue, refusal: u64, kept: u64) -> CompleteAnswer
+fn complete_refused(q: Queue, refusal: Refusal, kept: u64) -> Answered<Completed>
     ensures { result ≡ refused_complete q refusal kept }
 {
-    CompleteAnswer {
-        answer: Completed::Refused(refusal, kept),
+    Answered {
+        answer: Err((refusal, kept)),
         queue: q,
     }
 }
@@ -101,52 +80,38 @@ fn answer(q: Queue, token: u64, outcome: u64, kept: u64) -> Queue
     requires { token < 64 }
     ensures { result ≡ answered q token outcome kept }
 {
-    let at = token as usize;
     let mut after = q;
-    after.slots[at] = kept;
+    after.slots[token as usize] = kept;
     after.issued = false;
     if outcome == 0 {
-        return select(after, Selection::Free);
+        return select(after, None);
     }
     after.failed = true;
     after
 }
 
-pub fn complete(q: Queue, ticket: Ticket, outcome: u64, kept: u64) -> CompleteAnswer
+pub fn complete(q: Queue, ticket: Ticket, outcome: u64, kept: u64) -> Answered<Completed>
     ensures { result ≡ completed q ticket outcome kept }
 {
     if !well_formed(q) {
-        return complete_refused(q, BROKEN, kept);
+        return complete_refused(q, Refusal::Broken, kept);
     }
-    let selection = q.selection;
-    let refusal = complete_refusal(q.issued, selection, ticket, outcome, kept);
-    if refusal != 0 {
-        return complete_refused(q, refusal, kept);
-    }
-    let after = answer(q, ticket.token, outcome, kept);
-    CompleteAnswer {
-        answer: Completed::Settled,
-        queue: after,
+    match complete_refusal(q.issued, q.selection, ticket, outcome, kept) {
+        Some(refusal) => complete_refused(q, refusal, kept),
+        None => Answered {
+            answer: Ok(()),
+            queue: answer(q, ticket.token, outcome, kept),
+        },
     }
 }
 
-#[derive(Clone, Copy)]
-pub enum Retried {
-    Again(Ticket),
-    Refused(u64),
-}
+pub type Retried = Result<Ticket, Refusal>;
 
-#[derive(Clone, Copy)]
-pub struct RetryAnswer {
-    pub answer: Retried,
-    pub queue: Queue,
-}
-
-fn retry_refused(q: Queue, refusal: u64) -> RetryAnswer
+fn retry_refused(q: Queue, refusal: Refusal) -> Answered<Retried>
     ensures { result ≡ refused_retry q refusal }
 {
-    RetryAnswer {
-        answer: Retried::Refused(refusal),
+    Answered {
+        answer: Err(refusal),
         queue: q,
     }
 }
@@ -156,29 +121,23 @@ fn renew(q: Queue, ticket: Ticket) -> Queue
     requires { ticket.attempt < 18446744073709551615 }
     ensures { result ≡ renewed_to q ticket }
 {
-    let mut after = select(q, Selection::Of(ticket));
+    let mut after = select(q, Some(ticket));
     after.next = ticket.attempt + 1;
     after.failed = false;
     after
 }
 
-pub fn retry(q: Queue) -> RetryAnswer
+pub fn retry(q: Queue) -> Answered<Retried>
     ensures { result ≡ retried q }
 {
     if !well_formed(q) {
-        return retry_refused(q, BROKEN);
+        return retry_refused(q, Refusal::Broken);
     }
-    let slots = q.slots;
-    let selection = q.selection;
-    let due = retry_due(q.failed, selection, &slots, q.next);
-    match due {
-        Renewal::Refused(refusal) => retry_refused(q, refusal),
-        Renewal::Of(ticket) => {
-            let after = renew(q, ticket);
-            RetryAnswer {
-                answer: Retried::Again(ticket),
-                queue: after,
-            }
-        }
+    match retry_due(q.failed, q.selection, &q.slots, q.next) {
+        Err(refusal) => retry_refused(q, refusal),
+        Ok(ticket) => Answered {
+            answer: Ok(ticket),
+            queue: renew(q, ticket),
+        },
     }
 }

@@ -3,6 +3,4 @@
 
 mod attempts;
 
-pub use attempts::{
-    CompleteAnswer, Completed, PopAnswer, Popped, Retried, RetryAnswer, complete, pop, retry,
-};
+pub use attempts::{Completed, Popped, Retried, complete, pop, retry};

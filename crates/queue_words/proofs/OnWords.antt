@@ -7,13 +7,12 @@ use native.Mathlib.Omega.{arith}
 use lib.ListN.{length, take, drop}
 use lib.Seq.{take-take}
 use Rattle.choice.proofs.Ways.{hit, miss, pass, and_left, and_right}
-use Rattle.queue_record.specs.Refusals.{broken}
+use Rattle.queue_record.specs.declared.refusal.Refusal.TheVariants.{Broken}
 use Rattle.queue_record.specs.WellFormed.{rest_zero, well_formed}
 use Rattle.queue_record.specs.Record.{Sized}
 use Rattle.queue_record.specs.Waiting.{occupied}
 use Rattle.queue_record.specs.declared.record.Queue.{Queue}
 use Rattle.queue_record.specs.declared.record.Ticket.{Ticket}
-use Rattle.queue_record.specs.declared.record.Selection.TheVariants.{Of}
 use Rattle.queue_record.proofs.Fit.{fit, selected_below}
 use Rattle.queue_record.proofs.Waiting.{occupied_take}
 use Rattle.queue_words.specs.Layout.{at_slots, at_count, at_bound, word_count}
@@ -21,6 +20,7 @@ use Rattle.queue_words.specs.Words.{word, slots_in, selection_in, queue_of, word
 use Rattle.queue_words.specs.Exported.{Exported, refused_on, on_record}
 use Rattle.queue_words.proofs.RoundTrip.{encoded, words_again, queue_again, words_encode, queue_sized}
 use Rattle.queue_words.proofs.Setters.{Held}
+use Rattle.std.specs.Prelude.{Some}
 
 -- the words of a well-formed record are sound
 pub record_sound : (q : Queue) → Sized q → well_formed q ≡ true → is_sound (words_of q) ≡ true
@@ -29,17 +29,17 @@ record_sound q s w = pass _ (words_encode q s) ∙ (ap well_formed (queue_again 
 
 module _ (ws : List ℕ) where
   pub unsound_by : (given : ℕ) (answered : Exported) → is_sound ws ≡ false
-      → (encodes ws ≡ true → well_formed (queue_of ws) ≡ false → answered ≡ refused_on broken given ws) → on_record ws given answered ≡ refused_on broken given ws
+      → (encodes ws ≡ true → well_formed (queue_of ws) ≡ false → answered ≡ refused_on Broken given ws) → on_record ws given answered ≡ refused_on Broken given ws
   unfolding is_sound
   unsound_by given answered u f = by (encodes ws) refl
     where
-      by : (b : Bool) → encodes ws ≡ b → on_record ws given answered ≡ refused_on broken given ws
+      by : (b : Bool) → encodes ws ≡ b → on_record ws given answered ≡ refused_on Broken given ws
       by false e = hit _ (ap not e)
       by true e = miss _ (ap not e) ∙ f e (sym (pass (well_formed (queue_of ws)) e) ∙ u)
 
   pub unsound_on : (given : ℕ) (answered : Exported) → is_sound ws ≡ false
-      → (well_formed (queue_of ws) ≡ false → answered ≡ refused_on broken given (words_of (queue_of ws))) → on_record ws given answered ≡ refused_on broken given ws
-  unsound_on given answered u f = unsound_by given answered u (λ e w. f w ∙ ap (refused_on broken given) (words_again ws e))
+      → (well_formed (queue_of ws) ≡ false → answered ≡ refused_on Broken given (words_of (queue_of ws))) → on_record ws given answered ≡ refused_on Broken given ws
+  unsound_on given answered u f = unsound_by given answered u (λ e w. f w ∙ ap (refused_on Broken given) (words_again ws e))
 
   module _ (s : is_sound ws ≡ true) where
     pub sound_encodes : encodes ws ≡ true
@@ -85,6 +85,6 @@ module _ (ws : List ℕ) where
     few_bindings = (fit (queue_of ws) sound_fits).given.bound
 
     -- the selected ticket names one of the 64 slots
-    pub own_place : (t : Ticket) → selection_in ws ≡ Of t → t.token < 64
+    pub own_place : (t : Ticket) → selection_in ws ≡ Some t → t.token < 64
     unfolding queue_of
     own_place t e = selected_below (queue_of ws) t sound_fits e

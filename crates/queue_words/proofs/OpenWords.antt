@@ -1,25 +1,14 @@
 -- The openings, word by word
-use Prim.Native.Nat.{ℕ, ◌+◌, ◌<◌, ◌≤◌}
+use Prim.Native.Nat.{ℕ, ◌+◌, ◌≤◌}
 use mathlib.Core.Path.{◌≡◌, ap, ◌∙◌}
 use mathlib.Core.List.{List, [], ◌∷◌, ◌++◌, append_assoc}
-use native.Mathlib.Omega.{arith}
-use native.Mathlib.Numerals.{add-one}
-use lib.ListN.{length, get_or, take, drop, set}
-use lib.Seq.{paste, paste-suc, take-length}
+use lib.ListN.{length, take, drop}
+use lib.Seq.{take-length}
 use Rattle.queue_record.specs.Openings.{binding_places, iterator_of}
 use Rattle.queue_record.proofs.Padding.{kept_length}
-use Rattle.queue_words.specs.Layout.{at_bindings, word_count}
+use Rattle.queue_words.specs.Layout.{at_bindings}
 use Rattle.queue_words.specs.Words.{words_of}
 use Rattle.queue_words.specs.InPlace.{iterator_in, run_put}
-
--- ---- the walk that puts values
-pub put_more : (ws : List ℕ) (from : ℕ) (values : List ℕ) (i : ℕ) → length ws ≡ word_count → from + length values ≤ word_count
-    → i < length values → set (paste ws from values i) (from + i) (get_or values i 0) ≡ paste ws from values (i + 1)
-put_more ws from values i l few h = rw add-one (paste-suc ws from values i 0 (omega arith) h)
-
-pub put_all : (ws : List ℕ) (from : ℕ) (values : List ℕ) (i : ℕ) → i ≤ length values → length values ≤ i → paste ws from values i ≡ run_put ws from values
-unfolding run_put
-put_all ws from values i h k = let e : i ≡ length values = omega arith in ap (paste ws from values) e
 
 -- ---- an iterator
 module _ (domain first : ℕ) (given : List ℕ) (few : length given ≤ 16) where

@@ -1,10 +1,9 @@
 -- A part of a record and its words: there and back
 use Prim.Native.Nat.{ℕ, zero, suc, ◌≤◌, ◌<◌}
-use mathlib.Core.Path.{◌≡◌, refl, sym, ap, ◌∙◌}
+use mathlib.Core.Path.{◌≡◌, refl, sym, ◌∙◌}
 use mathlib.Core.Bool.{Bool, true, false, ◌&&◌}
 use native.Mathlib.Omega.{arith}
-use borrow.Author.Tests.{eq-eqb, ne_eqb, le-leb, eqb-true}
-use Rattle.choice.specs.Choice.{implies}
+use borrow.Author.Tests.{le-leb, eqb-true}
 use lib.Dec.{eqb}
 use Rattle.stage.specs.Phases.{phase_number, phase_at}
 use Rattle.stage.specs.declared.phases.Phase.{Phase}
@@ -12,9 +11,9 @@ use Rattle.choice.proofs.Ways.{pass, and_left, and_right}
 use Rattle.stage.proofs.Table.{phase_below}
 use Rattle.queue_record.specs.declared.record.Kind.{Kind}
 use Rattle.queue_record.specs.declared.record.Kind.TheVariants.{Scope, Iterator}
-use Rattle.queue_record.specs.declared.record.Selection.{Selection}
-use Rattle.queue_record.specs.declared.record.Selection.TheVariants.{Free, Of}
 use Rattle.queue_words.specs.Words.{kind_word, kind_at, mark_word, mark_at, selected_word, domain_word, token_word, attempt_word, selection_at, marks_encode, ticket_encodes}
+use Rattle.std.specs.Prelude.{Option, Some, None}
+use Rattle.queue_record.specs.declared.record.Ticket.{Ticket}
 
 -- ---- a part's words are read as that part
 pub kind_back : (k : Kind) → kind_at (kind_word k) ≡ k
@@ -25,9 +24,9 @@ pub mark_back : (b : Bool) → mark_at (mark_word b) ≡ b
 mark_back true = refl
 mark_back false = refl
 
-pub selection_back : (s : Selection) → selection_at (selected_word s) (domain_word s) (token_word s) (attempt_word s) ≡ s
-selection_back Free = refl
-selection_back (Of t) = refl
+pub selection_back : (s : Option Ticket) → selection_at (selected_word s) (domain_word s) (token_word s) (attempt_word s) ≡ s
+selection_back None = refl
+selection_back (Some t) = refl
 
 -- ---- a number that is no larger than the last one of its kind is the word of what it is read as
 -- a law of the numbers up to 4 is its five cases
@@ -84,24 +83,16 @@ kind_small : (k : Kind) → kind_word k ≤ 1
 kind_small Scope = omega arith
 kind_small Iterator = omega arith
 
-selected_small : (s : Selection) → selected_word s ≤ 1
-selected_small Free = omega arith
-selected_small (Of t) = omega arith
+selected_small : (s : Option Ticket) → selected_word s ≤ 1
+selected_small None = omega arith
+selected_small (Some t) = omega arith
 
-pub marks_encode_lem : (k : Kind) (s : Selection) (f i : Bool) (p : Phase) → marks_encode (kind_word k) (selected_word s) (mark_word f) (mark_word i) (phase_number p) ≡ true
+pub marks_encode_lem : (k : Kind) (s : Option Ticket) (f i : Bool) (p : Phase) → marks_encode (kind_word k) (selected_word s) (mark_word f) (mark_word i) (phase_number p) ≡ true
 marks_encode_lem k s f i p =
     let b : phase_number p < 5 = phase_below p in
     pass _ (le-leb _ _ (kind_small k)) ∙ (pass _ (le-leb _ _ (selected_small s))
     ∙ (pass _ (le-leb _ _ (mark_small f)) ∙ (pass _ (le-leb _ _ (mark_small i)) ∙ le-leb (phase_number p) 4 (omega arith))))
 
-pub ticket_encodes_lem : (s : Selection) → ticket_encodes (selected_word s) (domain_word s) (token_word s) (attempt_word s) ≡ true
-ticket_encodes_lem Free = refl
-ticket_encodes_lem (Of t) = refl
-
--- ---- the words of a ticket are asked for only where nothing is selected
-module _ (s d t a : ℕ) where
-  pub ticket_selected : (s ≡ 0 → ⊥) → ticket_encodes s d t a ≡ true
-  ticket_selected n = ap (λ (b : Bool). implies b (eqb d 0 && (eqb t 0 && eqb a 0))) (ne_eqb s 0 n)
-
-  pub ticket_free : s ≡ 0 → ticket_encodes s d t a ≡ (eqb d 0 && (eqb t 0 && eqb a 0))
-  ticket_free e = ap (λ (b : Bool). implies b (eqb d 0 && (eqb t 0 && eqb a 0))) (eq-eqb s 0 e)
+pub ticket_encodes_lem : (s : Option Ticket) → ticket_encodes (selected_word s) (domain_word s) (token_word s) (attempt_word s) ≡ true
+ticket_encodes_lem None = refl
+ticket_encodes_lem (Some t) = refl

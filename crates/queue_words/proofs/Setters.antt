@@ -9,12 +9,13 @@ use lib.Seq.{set-append_left}
 use Rattle.stage.specs.Phases.{phase_number}
 use Rattle.stage.specs.declared.phases.Phase.{Phase}
 use Rattle.queue_record.specs.Record.{with_next, with_slot, with_count, with_selection, with_failed, with_issued, with_phase}
-use Rattle.queue_record.specs.declared.record.Selection.{Selection}
 use Rattle.queue_record.specs.declared.record.Queue.{Queue}
 use Rattle.queue_words.specs.Layout.{at_next, at_slots, at_count, at_ticket_domain, at_ticket_token, at_ticket_attempt, at_failed, at_issued, at_phase}
 use Rattle.queue_words.specs.Words.{kind_word, mark_word, selected_word, domain_word, token_word, attempt_word, words_behind, words_of}
 use Rattle.queue_words.specs.InPlace.{set_selection}
 use Rattle.queue_words.proofs.Places.{set_behind}
+use Rattle.std.specs.Prelude.{Option}
+use Rattle.queue_record.specs.declared.record.Ticket.{Ticket}
 
 module _ (q : Queue) (l : length q.slots ≡ 64) where
   pub next_set : (n : ℕ) → words_of (with_next q n) ≡ set (words_of q) at_next n
@@ -31,7 +32,7 @@ module _ (q : Queue) (l : length q.slots ≡ 64) where
   unfolding words_of
   count_set n = sym (set_behind q l (words_behind q) 0 n)
 
-  pub selection_set : (s : Selection) → words_of (with_selection q s) ≡ set_selection (words_of q) s
+  pub selection_set : (s : Option Ticket) → words_of (with_selection q s) ≡ set_selection (words_of q) s
   unfolding words_of
   selection_set s =
       let b = words_behind q in
@@ -70,7 +71,7 @@ module _ {q : Queue} {ws : List ℕ} (h : Held q ws) where
   pub hold_count : (n : ℕ) → Held (with_count q n) (set ws at_count n)
   hold_count n = record { words = count_set q h.slots n ∙ ap (λ (r : List ℕ). set r at_count n) h.words; slots = h.slots }
 
-  pub hold_selection : (s : Selection) → Held (with_selection q s) (set_selection ws s)
+  pub hold_selection : (s : Option Ticket) → Held (with_selection q s) (set_selection ws s)
   hold_selection s = record { words = selection_set q h.slots s ∙ ap (λ (r : List ℕ). set_selection r s) h.words; slots = h.slots }
 
   pub hold_failed : (b : Bool) → Held (with_failed q b) (set ws at_failed (mark_word b))

@@ -7,7 +7,7 @@ use Rattle.stage.specs.Phases.{phase_after, is_pending, phase_at}
 use Rattle.stage.specs.declared.phases.Phase.{Phase}
 use Rattle.stage.specs.declared.phases.Event.TheVariants.{End, Cancel}
 use Rattle.choice.proofs.Ways.{hit, miss}
-use Rattle.queue_record.specs.Refusals.{broken}
+use Rattle.queue_record.specs.declared.refusal.Refusal.TheVariants.{Broken}
 use Rattle.queue_record.specs.Record.{with_phase}
 use Rattle.queue_stages.specs.Stages.{after_admit, admitted, ended, cancelled_by}
 use Rattle.queue_words.specs.Layout.{at_phase}
@@ -27,19 +27,19 @@ module _ (ws : List ℕ) where
   moved_to told p = said_in (words_of (with_phase (queue_of ws) p)) told
 
   module _ (u : is_sound ws ≡ false) where
-    pub admit_unsound : (target : List ℕ) → admit_on ws target ≡ refused_on broken 0 ws
+    pub admit_unsound : (target : List ℕ) → admit_on ws target ≡ refused_on Broken 0 ws
     unfolding admit_on admitted
     admit_unsound target = unsound_on ws 0 _ u (λ w. ap stage_exported (hit _ (ap not w)))
 
-    pub admit_without_unsound : admit_without_on ws ≡ refused_on broken 0 ws
+    pub admit_without_unsound : admit_without_on ws ≡ refused_on Broken 0 ws
     unfolding admit_without_on admitted
     admit_without_unsound = unsound_on ws 0 _ u (λ w. ap stage_exported (hit _ (ap not w)))
 
-    pub end_unsound : end_on ws ≡ refused_on broken 0 ws
+    pub end_unsound : end_on ws ≡ refused_on Broken 0 ws
     unfolding end_on ended
     end_unsound = unsound_on ws 0 _ u (λ w. ap stage_exported (hit _ (ap not w)))
 
-    pub cancel_unsound : cancel_on ws ≡ refused_on broken 0 ws
+    pub cancel_unsound : cancel_on ws ≡ refused_on Broken 0 ws
     unfolding cancel_on cancelled_by
     cancel_unsound = unsound_on ws 0 _ u (λ w. ap cancel_exported (hit _ (ap not w)))
 

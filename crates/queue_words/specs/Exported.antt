@@ -1,38 +1,23 @@
 -- What the exported calls do to a queue's words: each is the public call on the record that they encode
-use Rattle.std.specs.Prelude.{ℕ, ◌≡◌, Bool, not, false, List, [], ◌∷◌, eqb}
+use Rattle.std.specs.Prelude.{ℕ, ◌≡◌, Bool, true, not, false, List, [], ◌∷◌, Option, Some, None, Ok, Err}
 use Rattle.choice.specs.Choice.{when◌then◌else◌}
-use Rattle.queue_record.specs.Refusals.{done, broken}
-use Rattle.queue_record.specs.declared.openings.Opened.{Opened}
-use Rattle.queue_record.specs.declared.openings.Opened.TheVariants.{Open}
-use Rattle.queue_record.specs.declared.openings.OpenAnswer.{OpenAnswer}
+use Rattle.queue_record.specs.Refusals.{done, refusal_number, result_number}
+use Rattle.queue_record.specs.declared.refusal.Refusal.{Refusal}
+use Rattle.queue_record.specs.declared.refusal.Refusal.TheVariants.{Broken}
 use Rattle.queue_births.specs.Births.{registered, landed}
 use Rattle.queue_births.specs.Sequences.{registered_all}
 use Rattle.queue_steps.specs.Attempts.{popped, completed, retried}
-use Rattle.queue_births.specs.declared.births.Registered.{Registered}
-use Rattle.queue_births.specs.declared.births.Registered.TheVariants.{Token}
-use Rattle.queue_births.specs.declared.births.RegisterAnswer.{RegisterAnswer}
 use Rattle.queue_births.specs.declared.sequences.RegisteredAll.{RegisteredAll}
-use Rattle.queue_births.specs.declared.sequences.RegisterAllAnswer.{RegisterAllAnswer}
-use Rattle.queue_steps.specs.declared.attempts.Popped.{Popped}
-use Rattle.queue_steps.specs.declared.attempts.Popped.TheVariants.{Work, Nothing}
-use Rattle.queue_steps.specs.declared.attempts.PopAnswer.{PopAnswer}
-use Rattle.queue_steps.specs.declared.attempts.Completed.{Completed}
-use Rattle.queue_steps.specs.declared.attempts.Completed.TheVariants.{Settled}
-use Rattle.queue_steps.specs.declared.attempts.CompleteAnswer.{CompleteAnswer}
-use Rattle.queue_steps.specs.declared.attempts.Retried.{Retried}
-use Rattle.queue_steps.specs.declared.attempts.Retried.TheVariants.{Again}
-use Rattle.queue_steps.specs.declared.attempts.RetryAnswer.{RetryAnswer}
 use Rattle.queue_questions.specs.Questions.{matches, is_empty_told, is_issued_told, is_pending_told, is_settled_told, is_cancelled_told, has_failed_told, can_retry_told, can_finish_told, domain_told}
-use Rattle.queue_questions.specs.declared.questions.Told.{Told}
-use Rattle.queue_questions.specs.declared.questions.Told.TheVariants.{Yes, No}
-use Rattle.queue_questions.specs.declared.questions.DomainTold.{DomainTold}
-use Rattle.queue_questions.specs.declared.questions.DomainTold.TheVariants.{Is}
 use Rattle.queue_stages.specs.Stages.{admitted, ended, cancelled_by}
-use Rattle.queue_stages.specs.declared.stages.StageAnswer.{StageAnswer}
-use Rattle.queue_stages.specs.declared.stages.Cancelled.{Cancelled}
-use Rattle.queue_stages.specs.declared.stages.CancelAnswer.{CancelAnswer}
 use Rattle.queue_words.specs.Layout.{at_given_domain, at_given_token, at_given_attempt}
 use Rattle.queue_words.specs.Words.{word, ticket_of, queue_of, words_of, encodes}
+use Rattle.queue_record.specs.declared.answered.Answered.{Answered}
+use Rattle.queue_births.specs.Types.{Registered}
+use Rattle.queue_questions.specs.Types.{DomainTold, Told}
+use Rattle.queue_record.specs.Types.{Opened}
+use Rattle.queue_stages.specs.Types.{Cancelled}
+use Rattle.queue_steps.specs.Types.{Completed, Popped, Retried}
 
 -- what a call hands back: the number that it returns, the answer's five words, and the queue's words after it
 pub record Exported : Type 0 where
@@ -48,29 +33,29 @@ abbrev pub answer_of : ℕ → ℕ → List ℕ
 answer_of kind value = kind ∷ value ∷ 0 ∷ 0 ∷ 0 ∷ []
 
 -- a refusal: its number, case 0, and the undo number given back, or 0
-abbrev pub refused_on : ℕ → ℕ → List ℕ → Exported
-refused_on refusal given ws = exported refusal (answer_of 0 given) ws
+abbrev pub refused_on : Refusal → ℕ → List ℕ → Exported
+refused_on refusal given ws = exported (refusal_number refusal) (answer_of 0 given) ws
 
 -- words that encode no record are refused with 1, and stay
 abbrev pub on_record : List ℕ → ℕ → Exported → Exported
-on_record ws given answered = when not (encodes ws) then refused_on broken given ws else answered
+on_record ws given answered = when not (encodes ws) then refused_on Broken given ws else answered
 
 -- ---- the openings: the number that is returned
 abbrev pub open_number : Opened → ℕ
-open_number Open = done
-open_number (Opened.Refused refusal) = refusal
+open_number (Ok tt) = done
+open_number (Err refusal) = refusal_number refusal
 
 -- an opening's number, and the words of the queue that it leaves
-pub record OpensOn (x : OpenAnswer) (result : ℕ) (words : List ℕ) : Type 0 where
+pub record OpensOn (x : Answered Opened) (result : ℕ) (words : List ℕ) : Type 0 where
   pub number : result ≡ open_number x.answer
   pub left : words ≡ words_of x.queue
 
 -- ---- register, land
 abbrev pub born_said : Registered → List ℕ → Exported
-born_said (Token token) ws = exported done (answer_of 1 token) ws
-born_said (Registered.Refused refusal number) ws = refused_on refusal number ws
+born_said (Ok token) ws = exported done (answer_of 1 token) ws
+born_said (Err (refusal, number)) ws = refused_on refusal number ws
 
-abbrev pub born_exported : RegisterAnswer → Exported
+abbrev pub born_exported : Answered Registered → Exported
 born_exported r = born_said r.answer (words_of r.queue)
 
 unfoldable pub register_on : List ℕ → ℕ → Exported
@@ -80,13 +65,14 @@ unfoldable pub land_on : List ℕ → ℕ → Exported
 land_on ws number = on_record ws number (born_exported (landed (queue_of ws) number))
 
 -- ---- register of a whole list: how many were taken, with a refusal too
-abbrev pub born_all_case : ℕ → ℕ
-born_all_case refusal = when eqb refusal 0 then 1 else 0
+abbrev pub born_all_case : Option Refusal → ℕ
+born_all_case None = 1
+born_all_case (Some refusal) = 0
 
 abbrev pub born_all_said : RegisteredAll → List ℕ → Exported
-born_all_said r ws = exported r.refusal (answer_of (born_all_case r.refusal) r.taken) ws
+born_all_said r ws = exported (result_number r.refusal) (answer_of (born_all_case r.refusal) r.taken) ws
 
-abbrev pub born_all_exported : RegisterAllAnswer → Exported
+abbrev pub born_all_exported : Answered RegisteredAll → Exported
 born_all_exported r = born_all_said r.answer (words_of r.queue)
 
 unfoldable pub register_all_on : List ℕ → List ℕ → Exported
@@ -94,21 +80,21 @@ register_all_on ws numbers = on_record ws 0 (born_all_exported (registered_all (
 
 -- ---- pop, complete, retry
 abbrev pub pop_said : Popped → List ℕ → Exported
-pop_said (Work t number) ws = exported done (2 ∷ t.domain ∷ t.token ∷ t.attempt ∷ number ∷ []) ws
-pop_said Nothing ws = exported done (answer_of 1 0) ws
-pop_said (Popped.Refused refusal) ws = refused_on refusal 0 ws
+pop_said (Ok (Some (t, number))) ws = exported done (2 ∷ t.domain ∷ t.token ∷ t.attempt ∷ number ∷ []) ws
+pop_said (Ok None) ws = exported done (answer_of 1 0) ws
+pop_said (Err refusal) ws = refused_on refusal 0 ws
 
-abbrev pub pop_exported : PopAnswer → Exported
+abbrev pub pop_exported : Answered Popped → Exported
 pop_exported r = pop_said r.answer (words_of r.queue)
 
 unfoldable pub pop_on : List ℕ → Exported
 pop_on ws = on_record ws 0 (pop_exported (popped (queue_of ws)))
 
 abbrev pub complete_said : Completed → List ℕ → Exported
-complete_said Settled ws = exported done (answer_of 1 0) ws
-complete_said (Completed.Refused refusal kept) ws = refused_on refusal kept ws
+complete_said (Ok tt) ws = exported done (answer_of 1 0) ws
+complete_said (Err (refusal, kept)) ws = refused_on refusal kept ws
 
-abbrev pub complete_exported : CompleteAnswer → Exported
+abbrev pub complete_exported : Answered Completed → Exported
 complete_exported r = complete_said r.answer (words_of r.queue)
 
 -- the three words of the ticket given: domain, token, attempt
@@ -116,10 +102,10 @@ unfoldable pub complete_on : List ℕ → List ℕ → ℕ → ℕ → Exported
 complete_on ws ticket outcome kept = on_record ws kept (complete_exported (completed (queue_of ws) (ticket_of (word ticket at_given_domain) (word ticket at_given_token) (word ticket at_given_attempt)) outcome kept))
 
 abbrev pub retry_said : Retried → List ℕ → Exported
-retry_said (Again t) ws = exported done (1 ∷ t.domain ∷ t.token ∷ t.attempt ∷ 0 ∷ []) ws
-retry_said (Retried.Refused refusal) ws = refused_on refusal 0 ws
+retry_said (Ok t) ws = exported done (1 ∷ t.domain ∷ t.token ∷ t.attempt ∷ 0 ∷ []) ws
+retry_said (Err refusal) ws = refused_on refusal 0 ws
 
-abbrev pub retry_exported : RetryAnswer → Exported
+abbrev pub retry_exported : Answered Retried → Exported
 retry_exported r = retry_said r.answer (words_of r.queue)
 
 unfoldable pub retry_on : List ℕ → Exported
@@ -127,11 +113,11 @@ retry_on ws = on_record ws 0 (retry_exported (retried (queue_of ws)))
 
 -- ---- admit, end, and the questions: 1 no, 2 yes
 abbrev pub told_said : Told → List ℕ → Exported
-told_said Yes ws = exported done (answer_of 2 0) ws
-told_said No ws = exported done (answer_of 1 0) ws
-told_said (Told.Refused refusal) ws = refused_on refusal 0 ws
+told_said (Ok true) ws = exported done (answer_of 2 0) ws
+told_said (Ok false) ws = exported done (answer_of 1 0) ws
+told_said (Err refusal) ws = refused_on refusal 0 ws
 
-abbrev pub stage_exported : StageAnswer → Exported
+abbrev pub stage_exported : Answered Told → Exported
 stage_exported r = told_said r.answer (words_of r.queue)
 
 -- matched: there is a target, and its members are the committed ones
@@ -148,10 +134,10 @@ unfoldable pub end_on : List ℕ → Exported
 end_on ws = on_record ws 0 (stage_exported (ended (queue_of ws)))
 
 abbrev pub cancel_said : Cancelled → List ℕ → Exported
-cancel_said Cancelled.Done ws = exported done (answer_of 1 0) ws
-cancel_said (Cancelled.Refused refusal) ws = refused_on refusal 0 ws
+cancel_said (Ok tt) ws = exported done (answer_of 1 0) ws
+cancel_said (Err refusal) ws = refused_on refusal 0 ws
 
-abbrev pub cancel_exported : CancelAnswer → Exported
+abbrev pub cancel_exported : Answered Cancelled → Exported
 cancel_exported r = cancel_said r.answer (words_of r.queue)
 
 unfoldable pub cancel_on : List ℕ → Exported
@@ -186,8 +172,8 @@ unfoldable pub can_finish_on : List ℕ → List ℕ → Exported
 can_finish_on ws target = told_on ws (can_finish_told (queue_of ws) target)
 
 abbrev pub domain_said : DomainTold → List ℕ → Exported
-domain_said (Is domain) ws = exported done (answer_of 1 domain) ws
-domain_said (DomainTold.Refused refusal) ws = refused_on refusal 0 ws
+domain_said (Ok domain) ws = exported done (answer_of 1 domain) ws
+domain_said (Err refusal) ws = refused_on refusal 0 ws
 
 unfoldable pub domain_on : List ℕ → Exported
 domain_on ws = on_record ws 0 (domain_said (domain_told (queue_of ws)) ws)

@@ -1,14 +1,14 @@
 -- What calls store and say on words
-use Rattle.std.specs.Prelude.{ℕ, Bool, true, false, List, length, set, replicate}
+use Rattle.std.specs.Prelude.{ℕ, Bool, true, false, List, length, set, replicate, Option}
 use Rattle.std.proofs.Math.Seq.{paste}
 use Rattle.queue_record.specs.Refusals.{done}
-use Rattle.queue_record.specs.declared.record.Selection.{Selection}
 use Rattle.queue_words.specs.Layout.{at_kind, at_domain, at_next, at_selected, at_ticket_domain, at_ticket_token, at_ticket_attempt, at_bound, word_count}
 use Rattle.queue_words.specs.Words.{selected_word, domain_word, token_word, attempt_word}
 use Rattle.queue_words.specs.Exported.{Exported, exported, answer_of}
+use Rattle.queue_record.specs.declared.record.Ticket.{Ticket}
 
 -- the four words of a selection
-abbrev pub set_selection : List ℕ → Selection → List ℕ
+abbrev pub set_selection : List ℕ → Option Ticket → List ℕ
 set_selection ws s = set (set (set (set ws at_selected (selected_word s)) at_ticket_domain (domain_word s)) at_ticket_token (token_word s)) at_ticket_attempt (attempt_word s)
 
 -- yes or no as a word

@@ -1,13 +1,11 @@
 -- A record as words: which words encode one, and the words of each
-use Rattle.std.specs.Prelude.{ℕ, Bool, true, false, ◌&&◌, List, [], ◌∷◌, ◌++◌, eqb, leb, length, get_or, take, drop}
+use Rattle.std.specs.Prelude.{ℕ, Bool, true, false, ◌&&◌, List, [], ◌∷◌, ◌++◌, eqb, leb, length, get_or, take, drop, Option, Some, None}
 use Rattle.choice.specs.Choice.{when◌then◌else◌, implies}
 use Rattle.stage.specs.Phases.{phase_number, phase_at}
 use Rattle.queue_record.specs.WellFormed.{tokens_fit, bindings_fit, rest_zero, is_selected, ticket_fits, marks_fit, selected_fits, scope_fits, well_formed}
 use Rattle.queue_record.specs.declared.record.Kind.{Kind}
 use Rattle.queue_record.specs.declared.record.Kind.TheVariants.{Scope, Iterator}
 use Rattle.queue_record.specs.declared.record.Ticket.{Ticket}
-use Rattle.queue_record.specs.declared.record.Selection.{Selection}
-use Rattle.queue_record.specs.declared.record.Selection.TheVariants.{Free, Of}
 use Rattle.queue_record.specs.declared.record.Queue.{Queue}
 use Rattle.queue_words.specs.Layout.{at_kind, at_domain, at_next, at_slots, at_count, at_selected, at_ticket_domain, at_ticket_token, at_ticket_attempt, at_failed, at_issued, at_phase, at_bindings, at_bound, word_count}
 
@@ -35,24 +33,24 @@ abbrev pub ticket_of : ℕ → ℕ → ℕ → Ticket
 ticket_of domain token attempt = record { domain = domain; token = token; attempt = attempt }
 
 -- the four words of a selection: 1 and the ticket's, or four times 0
-abbrev pub selected_word : Selection → ℕ
-selected_word Free = 0
-selected_word (Of t) = 1
+abbrev pub selected_word : Option Ticket → ℕ
+selected_word None = 0
+selected_word (Some t) = 1
 
-abbrev pub domain_word : Selection → ℕ
-domain_word Free = 0
-domain_word (Of t) = t.domain
+abbrev pub domain_word : Option Ticket → ℕ
+domain_word None = 0
+domain_word (Some t) = t.domain
 
-abbrev pub token_word : Selection → ℕ
-token_word Free = 0
-token_word (Of t) = t.token
+abbrev pub token_word : Option Ticket → ℕ
+token_word None = 0
+token_word (Some t) = t.token
 
-abbrev pub attempt_word : Selection → ℕ
-attempt_word Free = 0
-attempt_word (Of t) = t.attempt
+abbrev pub attempt_word : Option Ticket → ℕ
+attempt_word None = 0
+attempt_word (Some t) = t.attempt
 
-abbrev pub selection_at : ℕ → ℕ → ℕ → ℕ → Selection
-selection_at selected domain token attempt = when eqb selected 0 then Free else Of (ticket_of domain token attempt)
+abbrev pub selection_at : ℕ → ℕ → ℕ → ℕ → Option Ticket
+selection_at selected domain token attempt = when eqb selected 0 then None else Some (ticket_of domain token attempt)
 
 -- ---- the record
 abbrev pub slots_in : List ℕ → List ℕ
@@ -61,7 +59,7 @@ slots_in ws = take 64 (drop at_slots ws)
 abbrev pub bindings_in : List ℕ → List ℕ
 bindings_in ws = take 16 (drop at_bindings ws)
 
-abbrev pub selection_in : List ℕ → Selection
+abbrev pub selection_in : List ℕ → Option Ticket
 selection_in ws = selection_at (word ws at_selected) (word ws at_ticket_domain) (word ws at_ticket_token) (word ws at_ticket_attempt)
 
 -- the record that words encode, where they do
@@ -103,7 +101,7 @@ unfoldable pub places_fit : Queue → Bool
 places_fit q = tokens_fit q.count && (bindings_fit q.bound && (rest_zero q.count q.slots && (rest_zero q.bound q.bindings && scope_fits q.kind q.bound q.phase)))
 
 -- the clauses on a selection, beside the marks and the slots
-abbrev pub selection_fits_by : Queue → Selection → Bool
+abbrev pub selection_fits_by : Queue → Option Ticket → Bool
 selection_fits_by q s = ticket_fits q.domain q.count q.next s && (marks_fit (is_selected s) q.failed q.issued && selected_fits q.failed q.issued q.slots s)
 
 unfoldable pub selection_fits : Queue → Bool

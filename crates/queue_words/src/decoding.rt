@@ -4,8 +4,9 @@ ghost use Rattle.queue_words.specs.Layout.{at_given_domain, at_given_token, at_g
 ghost use Rattle.queue_words.specs.Words.{word, kind_at, ticket_of, selection_in};
 
 use crate::layout::*;
-use queue_record::{Kind, Selection, Ticket};
+use queue_record::{Kind, Ticket};
 
+// No conversion of Kind: a word past 1 counts as an iterator only here, behind the test of the marks.
 pub fn kind_at(number: u64) -> Kind
     ensures { result ≡ kind_at number }
 {
@@ -15,13 +16,13 @@ pub fn kind_at(number: u64) -> Kind
     Kind::Iterator
 }
 
-pub fn selection_in(w: &Words) -> Selection
+pub fn selection_in(w: &Words) -> Option<Ticket>
     ensures { result ≡ selection_in w.now }
 {
     if w[SELECTED] == 0 {
-        return Selection::Free;
+        return None;
     }
-    Selection::Of(Ticket {
+    Some(Ticket {
         domain: w[TICKET_DOMAIN],
         token: w[TICKET_TOKEN],
         attempt: w[TICKET_ATTEMPT],

@@ -1,4 +1,5 @@
-// The places of a queue's words. include/gulberzan.h and specs/Layout.antt say the same; tests/layout holds them together.
+// The places of a queue's words. include/gulberzan.h and specs/Layout.antt say the same; tests/layout holds them together. The words
+// are C's, lent as they lie: no type of Rattle can stand for sound ones without a copy, so that they are sound is asked of the callers.
 pub const KIND: usize = 0;
 
 pub const DOMAIN: usize = 1;

@@ -11,21 +11,14 @@ use crate::decoding::selection_in;
 use crate::layout::*;
 use crate::search::newest_waiting;
 use queue_questions::may_finish;
-use queue_record::Found;
+use stage::Phase;
 
 // Nothing waiting and nothing selected.
 pub fn nothing_left(w: &Words) -> bool
     requires { is_sound w.now ≡ true }
     ensures { result ≡ nothing_left (selection_in w.now) (others (selection_in w.now) (occupied 0 (slots_in w.now))) }
 {
-    if w[SELECTED] != 0 {
-        return false;
-    }
-    let found = newest_waiting(w);
-    let Found::Missing = found else {
-        return false;
-    };
-    true
+    w[SELECTED] == 0 && newest_waiting(w).is_none()
 }
 
 pub fn retry_allowed(w: &Words) -> bool
@@ -41,7 +34,7 @@ pub fn finish_allowed(w: &Words, target: &[u64]) -> bool
     ensures { result ≡ finishable (selection_in w.now) (phase_at (word w.now at_phase)) target.now (committed (queue_of w.now)) }
 {
     let selection = selection_in(w);
-    let phase = stage::phase_at(w[PHASE]);
+    let phase = Phase::from(w[PHASE]);
     let end = BINDINGS + w[BOUND] as usize;
     let words = &w[..];
     may_finish(selection, phase, target, &words[BINDINGS..end])

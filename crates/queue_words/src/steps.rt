@@ -1,8 +1,7 @@
 // The stores that calls share: the selection, the stage, the openings.
-ghost use Rattle.std.specs.Prelude.{◌≡◌, true, ◌+◌, ◌≤◌, length};
+ghost use Rattle.std.specs.Prelude.{◌≡◌, true, ◌+◌, ◌≤◌, length, Some, None};
 ghost use Rattle.queue_record.specs.Record.{with_phase};
 ghost use Rattle.queue_record.specs.Openings.{scope_of, blank};
-ghost use Rattle.queue_record.specs.declared.record.Selection.TheVariants.{Free, Of};
 ghost use Rattle.queue_words.specs.Layout.{at_bindings, word_count};
 ghost use Rattle.queue_words.specs.Words.{queue_of, words_of, is_sound};
 ghost use Rattle.queue_words.specs.Exported.{exported};
@@ -13,7 +12,7 @@ use queue_record::Ticket;
 use stage::Phase;
 
 pub fn select(queue: &mut Words, ticket: Ticket)
-    ensures { queue.new ≡ set_selection queue.old (Of ticket) }
+    ensures { queue.new ≡ set_selection queue.old (Some ticket) }
 {
     queue[SELECTED] = 1;
     queue[TICKET_DOMAIN] = ticket.domain;
@@ -23,7 +22,7 @@ pub fn select(queue: &mut Words, ticket: Ticket)
 
 // Four times 0: nothing is selected.
 pub fn deselect(queue: &mut Words)
-    ensures { queue.new ≡ set_selection queue.old Free }
+    ensures { queue.new ≡ set_selection queue.old None }
 {
     queue[SELECTED] = 0;
     queue[TICKET_DOMAIN] = 0;
@@ -44,7 +43,7 @@ pub fn put_phase(queue: &mut Words, phase: Phase)
     requires { is_sound queue.old ≡ true }
     ensures { queue.new ≡ words_of (with_phase (queue_of queue.old) phase) }
 {
-    queue[PHASE] = stage::phase_number(phase);
+    queue[PHASE] = u64::from(phase);
 }
 
 // The same, and yes or no as the answer.
@@ -79,11 +78,7 @@ pub fn put_run(queue: &mut Words, from: usize, values: &[u64])
     requires { (length queue.old ≡ word_count) × (from + length values.now ≤ word_count) }
     ensures { queue.new ≡ run_put queue.old from values.now }
 {
-    let mut i = 0;
-    while i < values.len() {
-        queue[from + i] = values[i];
-        i += 1;
-    }
+    queue[from..from + values.len()].copy_from_slice(values);
 }
 
 // An iterator's words: Idle is 0. The bindings come by value, so that a list inside the queue was read before it is written over.

@@ -1,4 +1,4 @@
-// The name of each result, for a log file or a message: 24 bytes of ASCII, with 0 behind the name.
+// The name of each result, for a log file or a message: 24 bytes of ASCII, with 0 behind the name. C asks by the number.
 #![tactic(auto)]
 
 ghost use Rattle.std.specs.Prelude.{◌≡◌};

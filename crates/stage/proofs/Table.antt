@@ -1,10 +1,15 @@
 -- The table of numbers is the table of phases: its rule, once over the whole table
 use Prim.Native.Nat.{ℕ, ◌<◌}
 use mathlib.Core.Path.{◌≡◌, refl, ap, ◌∙◌}
+use mathlib.Core.Bool.{not}
 use mathlib.Core.List.{List, [], ◌∷◌}
 use native.Mathlib.Omega.{arith}
 use lib.ListN.{get_or}
-use Rattle.stage.specs.Phases.{phase_after, phase_number, event_number, phase_at}
+use denote.Enum.Declared.{tag_of}
+use lib.Dec.{eqb}
+use Rattle.stage.specs.Phases.{phase_after, phase_number, event_number, phase_at, differs}
+use Rattle.stage.specs.contracts.phases.Phase.{the_type}
+use Rattle.stage.specs.contracts.phases.PhasePartialEq.TheImpl.{ghosts}
 use Rattle.stage.specs.declared.phases.Phase.{Phase}
 use Rattle.stage.specs.declared.phases.Phase.TheVariants.{Idle, Pending, Ended, Stopping, Closed}
 use Rattle.stage.specs.declared.phases.Event.{Event}
@@ -59,8 +64,14 @@ phase_below Ended = omega arith
 phase_below Stopping = omega arith
 phase_below Closed = omega arith
 
-pub event_below : (e : Event) → event_number e < 4
-event_below Admit = omega arith
-event_below Land = omega arith
-event_below End = omega arith
-event_below Cancel = omega arith
+-- ---- the derived `==` compares the places of the variants, which are the numbers
+tag_is : (p : Phase) → tag_of the_type p ≡ phase_number p
+tag_is Idle = refl
+tag_is Pending = refl
+tag_is Ended = refl
+tag_is Stopping = refl
+tag_is Closed = refl
+
+-- what `p != q` answers
+pub differs_is : (p q : Phase) → not (ghosts.eq p q) ≡ differs p q
+differs_is p q j = not (eqb (tag_is p j) (tag_is q j))

@@ -5,6 +5,4 @@ mod bindings;
 mod phases;
 
 pub use bindings::same_set;
-pub use phases::{
-    Event, Phase, cancelled, differ, next_phase, pending, phase_at, phase_number, settled,
-};
+pub use phases::{Event, Phase, next_phase};

@@ -1,3 +1,4 @@
+pub mod Types
 pub mod Form
 pub mod Reading
 pub mod Stored

@@ -5,4 +5,4 @@ mod opening;
 mod textread;
 mod textrows;
 
-pub use textread::{TextRead, read_text};
+pub use textread::{BadLine, TextRead, read_text};

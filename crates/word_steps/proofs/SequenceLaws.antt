@@ -6,7 +6,7 @@ use mathlib.Core.List.{List}
 use native.Mathlib.Omega.{arith}
 use lib.ListN.{length, take, drop, get_or, length-set}
 use Rattle.choice.proofs.Ways.{hit}
-use Rattle.queue_record.specs.Refusals.{broken}
+use Rattle.queue_record.specs.declared.refusal.Refusal.TheVariants.{Broken}
 use Rattle.queue_record.specs.Record.{Sized}
 use Rattle.queue_record.specs.declared.record.Queue.{Queue}
 use Rattle.queue_decisions.specs.Sequences.{taking_of}
@@ -89,6 +89,6 @@ module _ (ws numbers : List ℕ) (s : is_sound ws ≡ true) (decided : Taking) (
       ∙ (ap born_all_exported (all_taken (queue_of ws) numbers (sound_fits ws s) decided e) ∙ sym (sound_on ws s 0 _)))
 
 -- words that are not sound are refused with 1, and none is taken
-pub register_all_unsound : (ws numbers : List ℕ) → is_sound ws ≡ false → register_all_on ws numbers ≡ refused_on broken 0 ws
+pub register_all_unsound : (ws numbers : List ℕ) → is_sound ws ≡ false → register_all_on ws numbers ≡ refused_on Broken 0 ws
 unfolding register_all_on registered_all
 register_all_unsound ws numbers u = unsound_on ws 0 _ u (λ w. ap born_all_exported (hit _ (ap not w)))

@@ -8,8 +8,9 @@ ghost use Rattle.queue_words.specs.Words.{word, queue_of, words_of, is_sound};
 ghost use Rattle.queue_words.specs.Exported.{exported, register_on, land_on};
 
 use queue_decisions::{land_refusal, register_refusal};
+use queue_record::Refusal;
 use queue_words::layout::*;
-use stage::Event;
+use stage::{Event, Phase};
 
 // One token more, whose slot holds the number.
 pub fn grow(queue: &mut Words, number: u64)
@@ -27,19 +28,24 @@ pub fn grow_landed(queue: &mut Words, number: u64)
     requires { (is_sound queue.old ≡ true) × (word queue.old at_count < 64) }
     ensures { queue.new ≡ words_of (landed_to (queue_of queue.old) number) }
 {
-    let phase = stage::phase_at(queue[PHASE]);
+    let phase = Phase::from(queue[PHASE]);
     grow(queue, number);
-    queue[PHASE] = stage::phase_number(stage::next_phase(phase, Event::Land));
+    queue[PHASE] = u64::from(stage::next_phase(phase, Event::Land));
 }
 
-// The call, by the number that refuses it.
-pub fn register_by(queue: &mut Words, number: u64, refusal: u64, answer: &mut Answer) -> u64
+// The call, by what refuses it.
+pub fn register_by(
+    queue: &mut Words,
+    number: u64,
+    refusal: Option<Refusal>,
+    answer: &mut Answer,
+) -> u64
     requires { (is_sound queue.old ≡ true) × (refusal ≡ register_refusal number (word queue.old at_count)) }
     ensures { exported result answer.new queue.new ≡ register_on queue.old number }
 {
-    if refusal != 0 {
+    if let Some(refusal) = refusal {
         *answer = [0, number, 0, 0, 0];
-        return refusal;
+        return refusal.into();
     }
     let token = queue[COUNT];
     grow(queue, number);
@@ -47,13 +53,13 @@ pub fn register_by(queue: &mut Words, number: u64, refusal: u64, answer: &mut An
     0
 }
 
-pub fn land_by(queue: &mut Words, number: u64, refusal: u64, answer: &mut Answer) -> u64
+pub fn land_by(queue: &mut Words, number: u64, refusal: Option<Refusal>, answer: &mut Answer) -> u64
     requires { (is_sound queue.old ≡ true) × (refusal ≡ land_refusal number (phase_at (word queue.old at_phase)) (word queue.old at_count)) }
     ensures { exported result answer.new queue.new ≡ land_on queue.old number }
 {
-    if refusal != 0 {
+    if let Some(refusal) = refusal {
         *answer = [0, number, 0, 0, 0];
-        return refusal;
+        return refusal.into();
     }
     let token = queue[COUNT];
     grow_landed(queue, number);
@@ -73,6 +79,6 @@ pub fn land_in(queue: &mut Words, number: u64, answer: &mut Answer) -> u64
     requires { is_sound queue.old ≡ true }
     ensures { exported result answer.new queue.new ≡ land_on queue.old number }
 {
-    let refusal = land_refusal(number, stage::phase_at(queue[PHASE]), queue[COUNT]);
+    let refusal = land_refusal(number, Phase::from(queue[PHASE]), queue[COUNT]);
     land_by(queue, number, refusal, answer)
 }

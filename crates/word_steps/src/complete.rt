@@ -5,7 +5,7 @@ ghost use Rattle.queue_words.specs.Words.{queue_of, words_of, is_sound};
 ghost use Rattle.queue_words.specs.Exported.{exported, on_record, complete_exported, complete_on};
 
 use queue_decisions::complete_refusal;
-use queue_record::Ticket;
+use queue_record::{Refusal, Ticket};
 use queue_words::layout::*;
 use queue_words::{deselect, selection_in, ticket_at};
 
@@ -24,28 +24,28 @@ pub fn settle(queue: &mut Words, token: u64, outcome: u64, kept: u64)
     queue[FAILED] = 1;
 }
 
-// What refuses an answer on the words; 0 where nothing does.
-pub fn refusal_in(w: &Words, ticket: Ticket, outcome: u64, kept: u64) -> u64
+// What refuses an answer on the words.
+pub fn refusal_in(w: &Words, ticket: Ticket, outcome: u64, kept: u64) -> Option<Refusal>
     ensures { result ≡ refusal_in (queue_of w.now) ticket outcome kept }
 {
     complete_refusal(w[ISSUED] == 1, selection_in(w), ticket, outcome, kept)
 }
 
-// The call, by the number that refuses it.
+// The call, by what refuses it.
 pub fn complete_by(
     queue: &mut Words,
     ticket: Ticket,
     outcome: u64,
     kept: u64,
-    refusal: u64,
+    refusal: Option<Refusal>,
     answer: &mut Answer,
 ) -> u64
     requires { (is_sound queue.old ≡ true) × (refusal ≡ refusal_in (queue_of queue.old) ticket outcome kept) }
     ensures { exported result answer.new queue.new ≡ on_record queue.old kept (complete_exported (completed (queue_of queue.old) ticket outcome kept)) }
 {
-    if refusal != 0 {
+    if let Some(refusal) = refusal {
         *answer = [0, kept, 0, 0, 0];
-        return refusal;
+        return refusal.into();
     }
     settle(queue, ticket.token, outcome, kept);
     *answer = [1, 0, 0, 0, 0];

@@ -2,8 +2,7 @@
 ghost use Rattle.queue_record.specs.Openings.{opening_of, scope_opened, iterator_opened, opened_as};
 ghost use Rattle.queue_words.specs.Exported.{OpensOn};
 
-use queue_record::refusal::TOO_MANY_BINDINGS;
-use queue_record::{Heading, Kind, places_of};
+use queue_record::{Heading, Kind, Refusal, places_of};
 use queue_words::layout::*;
 use queue_words::{put_blank, put_iterator, put_scope};
 
@@ -21,7 +20,7 @@ pub fn open_iterator(queue: &mut Words, domain: u64, first: u64, bindings: &[u64
     let bound = bindings.len() as u64;
     if queue_record::MOST_BINDINGS < bound {
         put_blank(queue);
-        return TOO_MANY_BINDINGS;
+        return Refusal::TooManyBindings.into();
     }
     let places = places_of(bindings);
     put_iterator(queue, domain, first, places, bound);

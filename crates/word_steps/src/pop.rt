@@ -7,7 +7,7 @@ ghost use Rattle.queue_words.specs.Words.{slots_in, selection_in, queue_of, word
 ghost use Rattle.queue_words.specs.Exported.{exported, pop_on};
 
 use queue_decisions::{Due, pop_due};
-use queue_record::{Found, Selection, Ticket};
+use queue_record::Ticket;
 use queue_words::layout::*;
 use queue_words::{select, selection_in, sought_in};
 
@@ -19,14 +19,14 @@ fn slot_in(w: &Words, token: u64) -> u64
 }
 
 // In sound words the token in question is one of the 64: its slot is read with no test.
-fn number_in(w: &Words, selection: Selection, found: Found) -> u64
+fn number_in(w: &Words, selection: Option<Ticket>, found: Option<u64>) -> u64
     requires { (is_sound w.now ≡ true) × (selection ≡ selection_in w.now) × (found ≡ sought (selection_in w.now) (slots_in w.now)) }
     ensures { result ≡ number_due selection found (slots_in w.now) }
 {
-    if let Selection::Of(ready) = selection {
+    if let Some(ready) = selection {
         return slot_in(w, ready.token);
     }
-    let Found::At(token) = found else {
+    let Some(token) = found else {
         return 0;
     };
     slot_in(w, token)
@@ -64,15 +64,15 @@ pub fn pop_by(queue: &mut Words, due: Due, answer: &mut Answer) -> u64
     ensures { exported result answer.new queue.new ≡ pop_on queue.old }
 {
     match due {
-        Due::Nothing => {
+        Ok(None) => {
             *answer = [1, 0, 0, 0, 0];
             0
         }
-        Due::Refused(refusal) => {
+        Err(refusal) => {
             *answer = [0, 0, 0, 0, 0];
-            refusal
+            refusal.into()
         }
-        Due::Of(ticket, number, next) => {
+        Ok(Some((ticket, number, next))) => {
             issue(queue, ticket, next);
             *answer = [2, ticket.domain, ticket.token, ticket.attempt, number];
             0

@@ -33,11 +33,11 @@ pub fn retry_by(queue: &mut Words, again: Renewal, answer: &mut Answer) -> u64
     ensures { exported result answer.new queue.new ≡ retry_on queue.old }
 {
     match again {
-        Renewal::Refused(refusal) => {
+        Err(refusal) => {
             *answer = [0, 0, 0, 0, 0];
-            refusal
+            refusal.into()
         }
-        Renewal::Of(ticket) => {
+        Ok(ticket) => {
             renew(queue, ticket);
             *answer = [1, ticket.domain, ticket.token, ticket.attempt, 0];
             0

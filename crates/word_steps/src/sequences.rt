@@ -7,6 +7,7 @@ ghost use Rattle.queue_words.specs.Exported.{exported, born_all_case, born_all_s
 
 use crate::births::grow;
 use queue_decisions::register_taking;
+use queue_record::{Refusal, result_number};
 use queue_words::layout::*;
 
 // A token more for each number.
@@ -14,32 +15,35 @@ fn grow_all(queue: &mut Words, numbers: &[u64])
     requires { (is_sound queue.old ≡ true) × (word queue.old at_count + length numbers.now ≤ 64) }
     ensures { queue.new ≡ words_of (grown_all (queue_of queue.old) numbers.now) }
 {
-    let mut i = 0;
-    while i < numbers.len() {
-        grow(queue, numbers[i]);
-        i += 1;
+    for number in numbers {
+        grow(queue, *number);
     }
 }
 
 // The answer's case: 1 where nothing refused.
-fn all_case(refusal: u64) -> u64
+fn all_case(refusal: Option<Refusal>) -> u64
     ensures { result ≡ born_all_case refusal }
 {
-    if refusal == 0 {
-        return 1;
+    match refusal {
+        None => 1,
+        Some(_) => 0,
     }
-    0
 }
 
 // The call, by the numbers that are taken and what refuses the next one.
-pub fn register_all_by(queue: &mut Words, taken: &[u64], refusal: u64, answer: &mut Answer) -> u64
+pub fn register_all_by(
+    queue: &mut Words,
+    taken: &[u64],
+    refusal: Option<Refusal>,
+    answer: &mut Answer,
+) -> u64
     requires { (is_sound queue.old ≡ true) × (word queue.old at_count + length taken.now ≤ 64) }
     ensures { exported result answer.new queue.new ≡ born_all_said (took_as (length taken.now) refusal) (words_of (grown_all (queue_of queue.old) taken.now)) }
 {
     let count = taken.len() as u64;
     grow_all(queue, taken);
     *answer = [all_case(refusal), count, 0, 0, 0];
-    refusal
+    result_number(refusal)
 }
 
 // The list is copied before the first store: it may lie inside the queue or the answer.
