@@ -46,8 +46,10 @@ pub fn pop(q: Queue) -> Answered<Popped>
     if !well_formed(q) {
         return pop_refused(q, Refusal::Broken);
     }
-    let found = seek(q.selection, &q.slots[..q.count as usize]);
-    let number = number_due(q.selection, found, &q.slots);
+    // A loan of the record's own slots would have the whole record copied twice.
+    let slots = q.slots;
+    let found = seek(q.selection, &slots[..q.count as usize]);
+    let number = number_due(q.selection, found, &slots);
     match pop_due(
         q.issued,
         q.failed,

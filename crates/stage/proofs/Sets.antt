@@ -1,10 +1,13 @@
 -- Walks over lists of bindings, and what the test of two sets means
-use Prim.Native.Nat.{ℕ}
+use Prim.Native.Nat.{ℕ, suc, ◌+◌, ◌≤◌, ◌<◌}
 use mathlib.Core.Path.{◌≡◌, refl, sym, ap, ◌∙◌}
 use mathlib.Core.Bool.{Bool, true, false, ◌&&◌, ◌||◌, or-true}
 use mathlib.Core.List.{List, [], ◌∷◌}
-use borrow.Author.Tests.{eq-eqb, eqb-true}
+use native.Mathlib.Omega.{arith}
+use borrow.Author.Tests.{eq-eqb, ne_eqb, eqb-true}
 use lib.Dec.{eqb}
+use lib.ListN.{length, get_or, drop, drop_of_length-le}
+use lib.Seq.{drop-cons}
 use Rattle.std.specs.List.{list_any, list_all}
 use Rattle.stage.specs.Bindings.{member, within, same_set, SameMembers}
 use Rattle.choice.proofs.Ways.{pass, either, and_left, and_right, clash, same_truth}
@@ -20,6 +23,21 @@ within_is_all (x ∷ xs) b = ap (λ r. member x b && r) (within_is_all xs b)
 
 pub is_within : (a b : List ℕ) (r : Bool) → r ≡ list_all (λ x. member x b) a → r ≡ within a b
 is_within a b r e = e ∙ within_is_all a b
+
+-- ---- a number at a place, and those behind it
+module _ (s : List ℕ) (x i : ℕ) where
+  pub none_behind : length s ≤ i → member x (drop i s) ≡ false
+  none_behind h = ap (member x) (drop_of_length-le s h)
+
+  module _ (inside : i < length s) where
+    ahead : member x (drop i s) ≡ member x (get_or s i 0 ∷ drop (suc i) s)
+    ahead = ap (member x) (drop-cons s i 0 inside)
+
+    pub found_here : get_or s i 0 ≡ x → member x (drop i s) ≡ true
+    found_here e = ahead ∙ either _ (eq-eqb _ x e)
+
+    pub found_behind : (get_or s i 0 ≡ x → ⊥) → member x (drop i s) ≡ member x (drop (i + 1) s)
+    found_behind n = let k : suc i ≡ i + 1 = omega arith in ahead ∙ (ap (λ b. b || member x (drop (suc i) s)) (ne_eqb _ x n) ∙ ap (λ j. member x (drop j s)) k)
 
 -- ---- what the test means
 -- a number of the first is in the second

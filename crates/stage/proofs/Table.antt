@@ -64,6 +64,12 @@ phase_below Ended = omega arith
 phase_below Stopping = omega arith
 phase_below Closed = omega arith
 
+pub event_below : (e : Event) → event_number e < 4
+event_below Admit = omega arith
+event_below Land = omega arith
+event_below End = omega arith
+event_below Cancel = omega arith
+
 -- ---- the derived `==` compares the places of the variants, which are the numbers
 tag_is : (p : Phase) → tag_of the_type p ≡ phase_number p
 tag_is Idle = refl

@@ -1,6 +1,6 @@
 // R28, R29: the five phases, the four events, and the table of next phases.
 ghost use Rattle.std.specs.Prelude.{◌≡◌};
-ghost use Rattle.stage.specs.Phases.{phase_after, is_pending, is_settled, is_cancelled, phase_number, phase_at};
+ghost use Rattle.stage.specs.Phases.{phase_after, is_pending, is_settled, is_cancelled, phase_number, event_number, phase_at};
 
 #[derive(Clone, Copy, Debug, PartialEq, Eq, Hash)]
 pub enum Phase {
@@ -34,6 +34,15 @@ impl From<Phase> for u64 {
 
     fn from(phase: Phase) -> u64 {
         phase as u64
+    }
+}
+
+// The event's column of the table.
+impl From<Event> for u64 {
+    ghost from_gives = { λ event number. number ≡ event_number event };
+
+    fn from(event: Event) -> u64 {
+        event as u64
     }
 }
 
@@ -73,8 +82,11 @@ impl Phase {
 }
 
 // The phase after an event.
+#[tactic(auto, using(crate::proofs::Table::phase_below, crate::proofs::Table::event_below))]
 pub fn next_phase(phase: Phase, event: Event) -> Phase
     ensures { result ≡ phase_after phase event }
 {
-    NEXT[phase as usize][event as usize].into()
+    let row = u64::from(phase) as usize;
+    let column = u64::from(event) as usize;
+    NEXT[row][column].into()
 }

@@ -57,8 +57,8 @@ pub returns-then-not-well_formed : goal.returns-then-not-well_formed
 unfolding popped
 returns-then-not-well_formed c = search rules
 
-pub shared_ref_as_front-seek : goal.shared_ref_as_front-seek
-shared_ref_as_front-seek c = (fit c.args.q (sym c.well_formed-2.ensures ∙ c.if-not-well_formed.false)).count
+pub slice_bounds-slots-end : goal.slice_bounds-slots-end
+slice_bounds-slots-end c = tokens_within c.args.q (sym c.well_formed-2.ensures ∙ c.if-not-well_formed.false) (search rules)
 
 pub slice_bounds-seek-end : goal.slice_bounds-seek-end
 slice_bounds-seek-end c =
