@@ -44,28 +44,47 @@ pub fn slot_fits(failed: bool, issued: bool, number: u64) -> bool
     failed || number != 0
 }
 
-// R15 to R19: the selected ticket, the marks and the ticket's slot agree.
-fn selection_fits(q: &Queue) -> bool
-    requires { q.now.count ≤ 64 }
-    ensures { result ≡ (ticket_fits q.now.domain q.now.count q.now.next q.now.selection && (marks_fit (is_selected q.now.selection) q.now.failed q.now.issued && selected_fits q.now.failed q.now.issued q.now.slots q.now.selection)) }
+// R15 to R19: the selected ticket, the marks and the ticket's slot agree. It takes the record's parts one by one, and the check copies what
+// it lends: where the record itself is lent, a call by value copies the whole of it.
+fn selection_fits(
+    domain: u64,
+    count: u64,
+    next: u64,
+    selection: Option<Ticket>,
+    failed: bool,
+    issued: bool,
+    slots: &[u64; 64],
+) -> bool
+    requires { count ≤ 64 }
+    ensures { result ≡ (ticket_fits domain count next selection && (marks_fit (is_selected selection) failed issued && selected_fits failed issued slots.now selection)) }
 {
-    let Some(ticket) = q.selection else {
-        return !q.failed && !q.issued;
+    let Some(ticket) = selection else {
+        return !failed && !issued;
     };
-    ticket_fits(q.domain, q.count, q.next, ticket)
-        && slot_fits(q.failed, q.issued, q.slots[ticket.token as usize])
+    ticket_fits(domain, count, next, ticket)
+        && slot_fits(failed, issued, slots[ticket.token as usize])
 }
 
 #[tactic(auto, unfolding(crate::specs::WellFormed::well_formed))]
 pub fn well_formed(q: Queue) -> bool
     ensures { result ≡ well_formed q }
 {
+    let slots = q.slots;
+    let bindings = q.bindings;
     q.count <= MOST_TOKENS
         && q.bound <= MOST_BINDINGS
-        && zeros_from(&q.slots, q.count)
-        && zeros_from(&q.bindings, q.bound)
+        && zeros_from(&slots, q.count)
+        && zeros_from(&bindings, q.bound)
         && scope_fits(q.kind, q.bound, q.phase)
-        && selection_fits(&q)
+        && selection_fits(
+            q.domain,
+            q.count,
+            q.next,
+            q.selection,
+            q.failed,
+            q.issued,
+            &slots,
+        )
 }
 
 // What each question asks first. Where the answer stands beside the record, `?` can't pass the record on: those calls ask well_formed.
